@@ -56,7 +56,7 @@ class_more program n ds d are is = record {
   each = each_and_last (IsClass program) ds d are.each (subst (λ k. IsClass program k d) (sym are.length) is);
 }
 
--- the heirs of a program that loads
+-- the declarations of a program that loads
 pub are_heirs : (program : List ClassParts) (ds : List Declared) → Loads program → AreClasses program (height program) ds
     → AreHeirs program (all_names program) ds
 are_heirs program ds loads are =
@@ -64,11 +64,11 @@ are_heirs program ds loads are =
     record {
       named = names;
       many = are.length ∙ sym names.many;
-      each = λ n d at. heir n d (are.each n d at);
+      each = λ n d at. declaration n d (are.each n d at);
     }
   where
-    heir : (n : ℕ) (d : Declared) → IsClass program n d → IsHeir program (all_names program) n d
-    heir n d is =
+    declaration : (n : ℕ) (d : Declared) → IsClass program n d → IsHeir program (all_names program) n d
+    declaration n d is =
         let name = name_numbered program n is.parts is.numbered in
         let found = found_numbered program loads n is.parts is.numbered in
         record {
@@ -107,29 +107,29 @@ once_numbered program loads n c at =
 
 pub are_fields : (program : List ClassParts) (hs : List Declared) (ds : List DeclaredFields) → Loads program → AreClasses program (height program) hs
     → AreTheirFields program hs (length hs) ds → AreFields program (all_names program) ds
-are_fields program hs ds loads heirs are =
+are_fields program hs ds loads declarations are =
     let names = are_names program loads in
     record {
       named = names;
-      many = are.length ∙ heirs.length ∙ sym names.many;
+      many = are.length ∙ declarations.length ∙ sym names.many;
       each = λ n d at. fields n d (are.each n d at);
     }
   where
     fields : (n : ℕ) (d : DeclaredFields) → IsItsFields program hs n d → DeclaresFields program (all_names program) n d
     fields n d is =
         let name = name_numbered program n is.parts is.numbered in
-        let heir = heirs.each n is.heir is.heir_is in
-        let same : heir.parts ≡ is.parts = cc in
-        let above = heir.above.named ∙ ap (λ (c : ClassParts). parents (Some c)) same in
+        let declaration = declarations.each n is.declaration is.declaration_is in
+        let same : declaration.parts ≡ is.parts = cc in
+        let above = declaration.above.named ∙ ap (λ (c : ClassParts). parents (Some c)) same in
         record {
           parts = is.parts;
           numbered = is.numbered;
           name = sym name;
           named = ap (class_named program) name ∙ found_numbered program loads n is.parts is.numbered;
           superclass = ap (option_map (name_of (all_names program))) is.superclass
-              ∙ top_is (name_of (all_names program)) is.parts.superclass is.parts.interfaces is.heir.above.items above;
+              ∙ top_is (name_of (all_names program)) is.parts.superclass is.parts.interfaces is.declaration.above.items above;
           within = subst (λ o. IfSome o (λ s. s < length (all_names program))) (sym is.superclass)
-              (top_within (length (all_names program)) is.parts.superclass is.heir.above.items heir.above.within);
+              (top_within (length (all_names program)) is.parts.superclass is.declaration.above.items declaration.above.within);
           fields = is.fields;
           apart = (once_numbered program loads n is.parts is.numbered).0;
         }

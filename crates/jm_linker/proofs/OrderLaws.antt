@@ -21,7 +21,7 @@ use Rattle.jm_linker.specs.Orders.{is_placed, is_next, HasNext, CanBeOrdered}
 use Rattle.jm_linker.proofs.AboveLaws.{any_at, one_further, below_itself, none_above_itself}
 use Rattle.jm_linker.proofs.PlacedLaws.{placed_count, count_within, count_more, set_is, set_was, set_length, none_is, none_counted, all_counted, first_or_none, not_next}
 
-module _ (program : List ClassParts) (loads : Loads program) (heirs : List Declared) (are : AreClasses program (height program) heirs) where
+module _ (program : List ClassParts) (loads : Loads program) (declarations : List Declared) (are : AreClasses program (height program) declarations) where
   abbrev name : ℕ → List ℕ
   name = name_of (all_names program)
 
@@ -52,23 +52,23 @@ module _ (program : List ClassParts) (loads : Loads program) (heirs : List Decla
       cc
 
   -- a class right above that is not placed, to which the walk has not come
-  one_up : (placed seen : List Bool) (v : ℕ) → ((k : ℕ) → k < length heirs → is_next heirs placed k ≡ false) → length seen ≡ length heirs
-      → v < length heirs → is_placed placed v ≡ false → AreBelow seen v
-      → (p : ℕ) × (p < length heirs) × (is_placed placed p ≡ false) × (is_placed seen p ≡ false) × AreBelow (set seen p true) p
+  one_up : (placed seen : List Bool) (v : ℕ) → ((k : ℕ) → k < length declarations → is_next declarations placed k ≡ false) → length seen ≡ length declarations
+      → v < length declarations → is_placed placed v ≡ false → AreBelow seen v
+      → (p : ℕ) × (p < length declarations) × (is_placed placed p ≡ false) × (is_placed seen p ≡ false) × AreBelow (set seen p true) p
   one_up placed seen v none len within unplaced below =
-      let d = get_there heirs v within in
+      let d = get_there declarations v within in
       let class = are.each v d.0 d.1 in
       let named = name_numbered program v class.parts class.numbered in
       let found = found_numbered program loads v class.parts class.numbered in
       let is : class_named program (name v) ≡ Some class.parts = ap (class_named program) named ∙ found in
-      let up = not_next heirs placed v d.0 d.1 unplaced (none v within) in
+      let up = not_next declarations placed v d.0 d.1 unplaced (none v within) in
       let index = slice_get_within d.0.above.items up.0 up.1 up.2 in
       let above : up.1 < length (all_names program) =
       subst (λ n. n < length (all_names program)) (get_or_from_slice_get d.0.above.items up.0 up.1 0 up.2)
       (All-get_or (λ n. n < length (all_names program)) d.0.above.items up.0 0 index class.above.within) in
       let many = (are_names program loads).many in
       let all = are.length in
-      let there : up.1 < length heirs = omega (arith, above, many, all) in
+      let there : up.1 < length declarations = omega (arith, above, many, all) in
       let at : slice_get (parents (Some class.parts)) up.0 ≡ Some (name up.1) =
       ap (λ xs. slice_get xs up.0) (sym class.above.named) ∙ get_map name d.0.above.items up.0 up.1 up.2 in
       let few : placed_count seen ≤ height program = let most = count_within seen in omega (arith, most, len, all) in
@@ -76,14 +76,14 @@ module _ (program : List ClassParts) (loads : Loads program) (heirs : List Decla
       (λ came. back_again seen v up.1 up.0 class.parts few named (none_above_itself program loads v class.parts class.numbered) at came below)
       (λ unseen. further_below seen v up.1 up.0 class.parts is at (omega (arith, there, len)) unseen below)
     where
-      by : (p : ℕ) → p < length heirs → is_placed placed p ≡ false → (t : Bool) → is_placed seen p ≡ t → (is_placed seen p ≡ true → ⊥)
+      by : (p : ℕ) → p < length declarations → is_placed placed p ≡ false → (t : Bool) → is_placed seen p ≡ t → (is_placed seen p ≡ true → ⊥)
           → (is_placed seen p ≡ false → AreBelow (set seen p true) p)
-          → (q : ℕ) × (q < length heirs) × (is_placed placed q ≡ false) × (is_placed seen q ≡ false) × AreBelow (set seen q true) q
+          → (q : ℕ) × (q < length declarations) × (is_placed placed q ≡ false) × (is_placed seen q ≡ false) × AreBelow (set seen q true) q
       by p there e true is again further = absurd (again is)
       by p there e false is again further = (p, there, e, is, further is)
 
-  climb : (left : ℕ) (placed seen : List Bool) (v : ℕ) → ((k : ℕ) → k < length heirs → is_next heirs placed k ≡ false) → length seen ≡ length heirs
-      → placed_count seen + left ≡ length seen → v < length heirs → is_placed placed v ≡ false → AreBelow seen v → ⊥
+  climb : (left : ℕ) (placed seen : List Bool) (v : ℕ) → ((k : ℕ) → k < length declarations → is_next declarations placed k ≡ false) → length seen ≡ length declarations
+      → placed_count seen + left ≡ length seen → v < length declarations → is_placed placed v ≡ false → AreBelow seen v → ⊥
   climb zero placed seen v none len more within unplaced below =
       let up = one_up placed seen v none len within unplaced below in
       let there = up.1 in
@@ -97,9 +97,9 @@ module _ (program : List ClassParts) (loads : Loads program) (heirs : List Decla
       let long = set_length seen up.0 in
       climb left placed (set seen up.0 true) up.0 none (long ∙ len) (omega (arith, count, more, long)) there up.2 up.4
 
-  begun : (n v : ℕ) → n ≡ length heirs → v < n → (seen : List Bool) → seen ≡ set (replicate n false) v true → (length seen ≡ length heirs) × AreBelow seen v
+  begun : (n v : ℕ) → n ≡ length declarations → v < n → (seen : List Bool) → seen ≡ set (replicate n false) v true → (length seen ≡ length declarations) × AreBelow seen v
   begun n v many within seen e =
-      let long : length seen ≡ length heirs = ap length e ∙ set_length (replicate n false) v ∙ length-replicate n false ∙ many in
+      let long : length seen ≡ length declarations = ap length e ∙ set_length (replicate n false) v ∙ length-replicate n false ∙ many in
       let count : placed_count seen ≡ placed_count (replicate n false) + 1 =
       ap placed_count e ∙ count_more (replicate n false) v (let l = length-replicate n false in omega (arith, l, within)) (none_is n v) in
       let none = none_counted n in
@@ -114,10 +114,10 @@ module _ (program : List ClassParts) (loads : Loads program) (heirs : List Decla
       by s (inr same) = subst (λ k. is_below (suc zero) program (name k) (name v) ≡ true) (sym same) (below_itself program zero (name v))
 
   -- one that is not placed, and none that comes next
-  never : (placed : List Bool) (v : ℕ) → v < length heirs → is_placed placed v ≡ false → ((k : ℕ) → k < length heirs → is_next heirs placed k ≡ false) → ⊥
+  never : (placed : List Bool) (v : ℕ) → v < length declarations → is_placed placed v ≡ false → ((k : ℕ) → k < length declarations → is_next declarations placed k ≡ false) → ⊥
   never placed v within unplaced none =
-      let seen = set (replicate (length heirs) false) v true in
-      let start = begun (length heirs) v refl within seen refl in
+      let seen = set (replicate (length declarations) false) v true in
+      let start = begun (length declarations) v refl within seen refl in
       let few = count_within seen in
       let left = rest (placed_count seen) (length seen) few in
       climb left.0 placed seen v none start.0 left.1 within unplaced start.1
@@ -125,10 +125,10 @@ module _ (program : List ClassParts) (loads : Loads program) (heirs : List Decla
       rest : (a b : ℕ) → a ≤ b → (c : ℕ) × (a + c ≡ b)
       rest a b l = (b - a, omega (arith, l))
 
-  pub can_be_ordered : CanBeOrdered heirs
+  pub can_be_ordered : CanBeOrdered declarations
   unfolding CanBeOrdered
-  can_be_ordered placed v len within unplaced = by (first_or_none (is_next heirs placed) (length heirs))
+  can_be_ordered placed v len within unplaced = by (first_or_none (is_next declarations placed) (length declarations))
     where
-      by : ((k : ℕ) × (k < length heirs) × (is_next heirs placed k ≡ true)) ⊎ ((k : ℕ) → k < length heirs → is_next heirs placed k ≡ false) → HasNext heirs placed
+      by : ((k : ℕ) × (k < length declarations) × (is_next declarations placed k ≡ true)) ⊎ ((k : ℕ) → k < length declarations → is_next declarations placed k ≡ false) → HasNext declarations placed
       by (inl found) = found
       by (inr none) = absurd (never placed v within unplaced none)

@@ -1,5 +1,6 @@
 -- Where each class has a higher rank than those right above it, no class is above itself.
-use Rattle.std.proofs.Common.{◌≡◌, ℕ, ◌+◌, ◌<◌, ◌≤◌, zero, suc, Bool, true, false, ◌&&◌, List, [], ◌∷◌, ◌++◌, Option, Some, None, refl, sym, ap, subst, ◌∙◌, arith}
+use Rattle.std.proofs.Common.{◌≡◌, ℕ, ◌+◌, ◌<◌, ◌≤◌, zero, suc, Bool, true, false, ◌&&◌, List, [], ◌∷◌, ◌++◌, Option, Some, None, length, get_or, drop, refl, sym, ap, subst, ◌∙◌, arith}
+use Rattle.std.proofs.lemmas.List.{drop_all, drop_more}
 use Rattle.std.specs.Prelude.{map, option_to_list, slice_index_or}
 use Rattle.std.specs.List.{list_all}
 use Rattle.jm_program.specs.Names.{same_text}
@@ -18,6 +19,15 @@ use Rattle.jm_linker.proofs.ClassLaws.{built_in_found}
 all_append : (f : List ℕ → Bool) (xs ys : List (List ℕ)) → list_all f xs ≡ true → list_all f ys ≡ true → list_all f (xs ++ ys) ≡ true
 all_append f [] ys e g = g
 all_append f (x ∷ xs) ys e g = let is = both (f x) (list_all f xs) e in rw is.0 (all_append f xs ys is.1 g)
+
+-- a loop over all of a list ends, or finds one that fails
+pub all_left : {A : Type 0} (f : A → Bool) (xs : List A) (i : ℕ) → length xs ≤ i → list_all f xs ≡ list_all f (drop i xs) → list_all f xs ≡ true
+all_left f xs i l e = e ∙ ap (list_all f) (drop_all i xs l)
+
+pub not_all : {A : Type 0} (f : A → Bool) (xs : List A) (i : ℕ) (x : A) → i < length xs → x ≡ get_or xs i x → f x ≡ false → list_all f xs ≡ list_all f (drop i xs) → list_all f xs ≡ false
+not_all f xs i x l is fails e =
+    let here : list_all f (drop i xs) ≡ (f x && list_all f (drop (i + 1) xs)) = rw (drop_more xs i x l, ← is) refl in
+    e ∙ here ∙ ap (λ b. b && list_all f (drop (i + 1) xs)) fails
 
 -- the names right above a class are under the rank
 parents_under : (program : List ClassParts) (ranks : List ℕ) (rank : ℕ) (c : ClassParts) → are_parents_under program ranks rank c ≡ true → list_all (is_under program ranks rank) (parents (Some c)) ≡ true

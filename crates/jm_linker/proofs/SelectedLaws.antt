@@ -126,26 +126,26 @@ list_within bound (Some name) (n ∷ ns) h = All-push (λ k. k < bound) [] n (Al
 pub are_methods : (program : List ClassParts) (hs ds : List Declared) → Loads program → AreClasses program (height program) hs
     → AreTheirMethods program hs (length hs) ds → (name : List ℕ) (t : MethodDescriptor) (selector : ℕ) → selector_of program name t ≡ Some selector
     → AreMethods program (all_names program) (all_methods program) selector name t ds
-are_methods program hs ds loads heirs are name t selector e =
+are_methods program hs ds loads declarations are name t selector e =
     let names = are_names program loads in
     record {
       named = names;
-      many = are.length ∙ heirs.length ∙ sym names.many;
+      many = are.length ∙ declarations.length ∙ sym names.many;
       each = λ n d at. declares n d (are.each n d at);
     }
   where
     declares : (n : ℕ) (d : Declared) → IsItsMethods program hs n d → DeclaresMethods program (all_names program) (all_methods program) selector name t n d
     declares n d is =
-        let heir = heirs.each n is.heir is.heir_is in
-        let same : heir.parts ≡ is.parts = cc in
-        let above = heir.above.named ∙ ap (λ (c : ClassParts). parents (Some c)) same in
+        let declaration = declarations.each n is.declaration is.declaration_is in
+        let same : declaration.parts ≡ is.parts = cc in
+        let above = declaration.above.named ∙ ap (λ (c : ClassParts). parents (Some c)) same in
         record {
           parts = is.parts;
           named = ap (class_named program) (name_numbered program n is.parts is.numbered) ∙ found_numbered program loads n is.parts is.numbered;
-          above = ap (map (name_of (all_names program))) is.superclass ∙ named_list (name_of (all_names program)) (first_of is.parts.superclass is.heir.above.items)
-              ∙ ap option_to_list (top_is (name_of (all_names program)) is.parts.superclass is.parts.interfaces is.heir.above.items above);
+          above = ap (map (name_of (all_names program))) is.superclass ∙ named_list (name_of (all_names program)) (first_of is.parts.superclass is.declaration.above.items)
+              ∙ ap option_to_list (top_is (name_of (all_names program)) is.parts.superclass is.parts.interfaces is.declaration.above.items above);
           within = subst (All (λ k. k < length (all_names program))) (sym is.superclass)
-              (list_within (length (all_names program)) is.parts.superclass is.heir.above.items heir.above.within);
+              (list_within (length (all_names program)) is.parts.superclass is.declaration.above.items declaration.above.within);
           own = is.own.own (once_numbered program loads n is.parts is.numbered).1 name t selector e;
         }
 

@@ -22,53 +22,53 @@ list_stands : (P : ℕ → Type 0) (o : Option ℕ) → IfSome o P → All P (op
 list_stands P None h = All-nil P
 list_stands P (Some n) h = All-push P [] n (All-nil P) h
 
-same_heir : (a b : Declared) → Some a ≡ Some b → a ≡ b
-same_heir a b e = cc
+same_declaration : (a b : Declared) → Some a ≡ Some b → a ≡ b
+same_declaration a b e = cc
 
-pub fields_order : (program : List ClassParts) (heirs : List Declared) (fields : List DeclaredFields) (order : List ℕ)
-    → AreTheirFields program heirs (length heirs) fields → IsOrder heirs order → IsTopDown fields order
-fields_order program heirs fields order are is = record {
+pub fields_order : (program : List ClassParts) (declarations : List Declared) (fields : List DeclaredFields) (order : List ℕ)
+    → AreTheirFields program declarations (length declarations) fields → IsOrder declarations order → IsTopDown fields order
+fields_order program declarations fields order are is = record {
   many = is.many ∙ sym are.length;
   all = λ class l. let long = are.length in is.all class (omega (arith, l, long));
   after = λ i class at. after i class (is.after i class at);
 }
   where
-    after : (i class : ℕ) → (d : Declared) × (slice_get heirs class ≡ Some d) × All (StandsBefore order i) d.above.items
+    after : (i class : ℕ) → (d : Declared) × (slice_get declarations class ≡ Some d) × All (StandsBefore order i) d.above.items
         → (d : DeclaredFields) × (slice_get fields class ≡ Some d) × IfSome d.superclass (StandsBefore order i)
-    after i class heir =
+    after i class declaration =
         let long = are.length in
-        let within = slice_get_within heirs class heir.0 heir.1 in
+        let within = slice_get_within declarations class declaration.0 declaration.1 in
         let d = get_there fields class (omega (arith, within, long)) in
         let its = are.each class d.0 d.1 in
-        let same = same_heir heir.0 its.heir (sym heir.1 ∙ its.heir_is) in
-        let above = subst (λ (h : Declared). All (StandsBefore order i) h.above.items) same heir.2 in (
+        let same = same_declaration declaration.0 its.declaration (sym declaration.1 ∙ its.declaration_is) in
+        let above = subst (λ (h : Declared). All (StandsBefore order i) h.above.items) same declaration.2 in (
           d.0,
           d.1,
           subst (λ (o : Option ℕ). IfSome o (StandsBefore order i)) (sym its.superclass)
-              (first_stands (StandsBefore order i) its.parts.superclass its.heir.above.items above),
+              (first_stands (StandsBefore order i) its.parts.superclass its.declaration.above.items above),
         )
 
-pub methods_order : (program : List ClassParts) (heirs methods : List Declared) (order : List ℕ)
-    → AreTheirMethods program heirs (length heirs) methods → IsOrder heirs order → IsOrder methods order
-methods_order program heirs methods order are is = record {
+pub methods_order : (program : List ClassParts) (declarations methods : List Declared) (order : List ℕ)
+    → AreTheirMethods program declarations (length declarations) methods → IsOrder declarations order → IsOrder methods order
+methods_order program declarations methods order are is = record {
   few = (let long = are.length in let few = is.few in omega (arith, long, few));
   many = is.many ∙ sym are.length;
   all = λ class l. let long = are.length in is.all class (omega (arith, l, long));
   after = λ i class at. after i class (is.after i class at);
 }
   where
-    after : (i class : ℕ) → (d : Declared) × (slice_get heirs class ≡ Some d) × All (StandsBefore order i) d.above.items
+    after : (i class : ℕ) → (d : Declared) × (slice_get declarations class ≡ Some d) × All (StandsBefore order i) d.above.items
         → (d : Declared) × (slice_get methods class ≡ Some d) × All (StandsBefore order i) d.above.items
-    after i class heir =
+    after i class declaration =
         let long = are.length in
-        let within = slice_get_within heirs class heir.0 heir.1 in
+        let within = slice_get_within declarations class declaration.0 declaration.1 in
         let d = get_there methods class (omega (arith, within, long)) in
         let its = are.each class d.0 d.1 in
-        let same = same_heir heir.0 its.heir (sym heir.1 ∙ its.heir_is) in
-        let above = subst (λ (h : Declared). All (StandsBefore order i) h.above.items) same heir.2 in (
+        let same = same_declaration declaration.0 its.declaration (sym declaration.1 ∙ its.declaration_is) in
+        let above = subst (λ (h : Declared). All (StandsBefore order i) h.above.items) same declaration.2 in (
           d.0,
           d.1,
           subst (All (StandsBefore order i)) (sym its.superclass)
-              (list_stands (StandsBefore order i) (first_of its.parts.superclass its.heir.above.items)
-              (first_stands (StandsBefore order i) its.parts.superclass its.heir.above.items above)),
+              (list_stands (StandsBefore order i) (first_of its.parts.superclass its.declaration.above.items)
+              (first_stands (StandsBefore order i) its.parts.superclass its.declaration.above.items above)),
         )

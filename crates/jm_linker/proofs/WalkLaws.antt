@@ -75,18 +75,34 @@ no_more test program ps qs p e z =
     ap (found_pending test program) e ∙ pushed test program ps p ∙ ap (λ xs. or_found (above_any test p.depth program xs) (found_pending test program ps)) z
     ∙ ap (λ o. or_found o (found_pending test program ps)) (any_nil test p.depth program)
 
+-- the last ones pending are looked at: their first name is taken, and the others are left
+pub record Takes (before after : List Pending) (next : Pending) (name : List ℕ) : Type 0 where
+  pub under : List Pending
+  pub left : Pending
+  pub was : before ≡ under ++ next ∷ []
+  pub names : next.names.now ≡ name ∷ left.names.now
+  pub depth : left.depth ≡ next.depth
+  pub below : left.below ≡ next.below
+  pub now : after ≡ under ++ left ∷ []
+
+pub takes : {before after : List Pending} {next : Pending} {name : List ℕ} (under : List Pending) (left : Pending) → before ≡ under ++ next ∷ [] → after ≡ under ++ left ∷ [] → next.names.now ≡ name ∷ left.names.now
+    → left.depth ≡ next.depth → left.below ≡ next.below → Takes before after next name
+takes under left was now names depth below = record { under = under; left = left; was = was; names = names; depth = depth; below = below; now = now }
+
+-- what stands behind the first name
+others_found : (test : ClassParts → Bool) (program : List ClassParts) {before after : List Pending} {p : Pending} {x : List ℕ} (t : Takes before after p x)
+    → above_any test p.depth program p.names.now ≡ or_found (above_from test p.depth program x) (above_any test t.left.depth program t.left.names.now)
+others_found test program {p} {x} t =
+    ap (above_any test p.depth program) t.names ∙ any_cons test p.depth program x t.left.names.now
+    ∙ ap (λ d. or_found (above_from test p.depth program x) (above_any test d program t.left.names.now)) (sym t.depth)
+
 -- the first name, and then the others
-pub found_by_first_name : (test : ClassParts → Bool) (program : List ClassParts) (ps qs rs : List Pending) (p q : Pending) (x : List ℕ) (xs : List (List ℕ))
-    → qs ≡ ps ++ p ∷ [] → p.names.now ≡ x ∷ xs → q.names.now ≡ xs → q.depth ≡ p.depth → rs ≡ ps ++ q ∷ []
-    → found_pending test program qs ≡ or_found (above_from test p.depth program x) (found_pending test program rs)
-found_by_first_name test program ps qs rs p q x xs e names others same f =
-    ap (found_pending test program) e ∙ pushed test program ps p ∙ ap (λ ys. or_found (above_any test p.depth program ys) (found_pending test program ps)) names
-    ∙ ap (λ o. or_found o (found_pending test program ps)) (any_cons test p.depth program x xs)
-    ∙ or_assoc (above_from test p.depth program x) (above_any test p.depth program xs) (found_pending test program ps)
-    ∙ ap (or_found (above_from test p.depth program x)) (sym left)
-  where
-    left : found_pending test program rs ≡ or_found (above_any test p.depth program xs) (found_pending test program ps)
-    left = ap (found_pending test program) f ∙ pushed test program ps q ∙ ap (λ ys. or_found (above_any test q.depth program ys) (found_pending test program ps)) others ∙ ap (λ d. or_found (above_any test d program xs) (found_pending test program ps)) same
+pub found_by_first_name : (test : ClassParts → Bool) (program : List ClassParts) {before after : List Pending} {p : Pending} {x : List ℕ} → Takes before after p x
+    → found_pending test program before ≡ or_found (above_from test p.depth program x) (found_pending test program after)
+found_by_first_name test program {p} {x} t =
+    ap (found_pending test program) t.was ∙ pushed test program t.under p ∙ ap (λ o. or_found o (found_pending test program t.under)) (others_found test program t)
+    ∙ or_assoc (above_from test p.depth program x) (above_any test t.left.depth program t.left.names.now) (found_pending test program t.under)
+    ∙ ap (or_found (above_from test p.depth program x)) (sym (pushed test program t.under t.left) ∙ ap (found_pending test program) (sym t.now))
 
 -- a name of no class, of the class that is sought, and of another
 pub no_such : (test : ClassParts → Bool) (program : List ClassParts) (d : ℕ) (x : List ℕ) → class_named program x ≡ None → above_from test d program x ≡ None
@@ -256,14 +272,15 @@ says_as test program p q depth below found h =
     (subst (λ d. elim p.below as (λ _. Type 0) [ None ↦ Unit {0} | Some n ↦ Gives test (suc d) program n found ]) (sym depth) h)
 
 -- a name of which nothing is found
-pub say_skipped : (test : ClassParts → Bool) (program : List ClassParts) (ps qs rs : List Pending) (p q : Pending) (x : List ℕ) (xs : List (List ℕ)) → qs ≡ ps ++ p ∷ [] → p.names.now ≡ x ∷ xs → q.names.now ≡ xs → q.depth ≡ p.depth → q.below ≡ p.below → rs ≡ ps ++ q ∷ [] → above_from test p.depth program x ≡ None → AllSay test program qs → AllSay test program rs
-say_skipped test program ps qs rs p q x xs e names others depth below f none a =
-    let first : above_any test p.depth program p.names.now ≡ above_any test p.depth program xs = ap (λ ys. above_any test p.depth program ys) names ∙ any_cons test p.depth program x xs ∙ ap (λ o. or_found o (above_any test p.depth program xs)) none in
-    let left : above_any test q.depth program q.names.now ≡ above_any test p.depth program xs = ap (λ ys. above_any test q.depth program ys) others ∙ ap (λ d. above_any test d program xs) depth in
-    let all = subst (AllSay test program) e a in
-    subst (AllSay test program) (sym f)
-    (say_other test program ps (p ∷ []) (q ∷ []) (one_pending test program p ∙ first ∙ sym left ∙ sym (one_pending test program q)) all
-    (one_says test program q (says_as test program p q depth below _ (says_same test program p _ _ (first ∙ sym left) (say_one test program p (say_upper test program ps (p ∷ []) all))))))
+pub say_skipped : (test : ClassParts → Bool) (program : List ClassParts) {before after : List Pending} {p : Pending} {x : List ℕ} → Takes before after p x
+    → above_from test p.depth program x ≡ None → AllSay test program before → AllSay test program after
+say_skipped test program {p} {x} t none a =
+    let q = t.left in
+    let same : above_any test p.depth program p.names.now ≡ above_any test q.depth program q.names.now = others_found test program t ∙ ap (λ o. or_found o (above_any test q.depth program q.names.now)) none in
+    let all = subst (AllSay test program) t.was a in
+    subst (AllSay test program) (sym t.now)
+    (say_other test program t.under (p ∷ []) (q ∷ []) (one_pending test program p ∙ same ∙ sym (one_pending test program q)) all
+    (one_says test program q (says_as test program p q t.depth t.below _ (says_same test program p _ _ same (say_one test program p (say_upper test program t.under (p ∷ []) all))))))
 
 three_found : (test : ClassParts → Bool) (program : List ClassParts) (q s i : Pending) → found_pending test program (q ∷ s ∷ i ∷ []) ≡ or_found (or_found (above_any test i.depth program i.names.now) (above_any test s.depth program s.names.now)) (above_any test q.depth program q.names.now)
 unfolding found_pending
@@ -273,35 +290,73 @@ three_say : (test : ClassParts → Bool) (program : List ClassParts) (q s i : Pe
 unfolding AllSay found_pending
 three_say test program q s i a b below = (a, (b, (subst (λ o. elim o as (λ _. Type 0) [ None ↦ Unit {0} | Some n ↦ Gives test (suc i.depth) program n (above_any test i.depth program i.names.now) ]) (sym below) tt, tt)))
 
--- the names above a class, after those that were there
-pub say_above : (test : ClassParts → Bool) (program : List ClassParts) (ps qs os ts rs : List Pending) (p q s i : Pending) (x : List ℕ) (xs : List (List ℕ)) (number : ℕ) (c : ClassParts) → qs ≡ ps ++ p ∷ [] → p.names.now ≡ x ∷ xs → q.names.now ≡ xs → q.depth ≡ p.depth → q.below ≡ p.below → os ≡ ps ++ q ∷ [] → s.names.now ≡ option_to_list c.superclass → s.depth ≡ p.depth - 1 → s.below ≡ Some number → ts ≡ os ++ s ∷ [] → i.names.now ≡ c.interfaces → i.depth ≡ p.depth - 1 → i.below ≡ None → rs ≡ ts ++ i ∷ [] → p.depth ≢ 0 → NamesClass program number x → class_named program x ≡ Some c → test c ≡ false → AllSay test program qs → (found_pending test program qs ≡ found_pending test program rs) × AllSay test program rs
-say_above test program ps qs os ts rs p q s i x xs number c e names others depth below f super up same g interfaces up' below' h ne named is other a =
-    let d : ℕ = p.depth - 1 in
-    let inner : or_found (above_any test i.depth program i.names.now) (above_any test s.depth program s.names.now) ≡ above_from test p.depth program x =
-    ap (λ ys. or_found (above_any test i.depth program ys) (above_any test s.depth program s.names.now)) interfaces
-    ∙ ap (λ n. or_found (above_any test n program c.interfaces) (above_any test s.depth program s.names.now)) up'
-    ∙ ap (λ ys. or_found (above_any test d program c.interfaces) (above_any test s.depth program ys)) super
-    ∙ ap (λ n. or_found (above_any test d program c.interfaces) (above_any test n program (option_to_list c.superclass))) up
-    ∙ sym (any_append test d program c.interfaces (option_to_list c.superclass)) ∙ sym (is_above test program p.depth x c ne is other) in
-    let left : above_any test q.depth program q.names.now ≡ above_any test p.depth program xs = ap (λ ys. above_any test q.depth program ys) others ∙ ap (λ n. above_any test n program xs) depth in
+-- a turn to a class in which nothing is found: behind the names that are left come those above it
+pub record Climbs (test : ClassParts → Bool) (program : List ClassParts) (before after : List Pending) : Type 0 where
+  pub next : Pending
+  pub name : List ℕ
+  pub number : ℕ
+  pub class : ClassParts
+  pub between : List Pending
+  pub taken : Takes before between next name
+  pub goes_on : next.depth ≢ 0
+  pub numbered : NamesClass program number name
+  pub named : class_named program name ≡ Some class
+  pub not_found : test class ≡ false
+  pub superclass : Pending
+  pub superclass_names : superclass.names.now ≡ option_to_list class.superclass
+  pub superclass_depth : superclass.depth ≡ next.depth - 1
+  pub superclass_below : superclass.below ≡ Some number
+  pub interfaces : Pending
+  pub interfaces_names : interfaces.names.now ≡ class.interfaces
+  pub interfaces_depth : interfaces.depth ≡ next.depth - 1
+  pub interfaces_below : interfaces.below ≡ None
+  pub with_superclass : List Pending
+  pub pushed : with_superclass ≡ between ++ superclass ∷ []
+  pub now : after ≡ with_superclass ++ interfaces ∷ []
+
+-- the names above the class give what the class gives
+climbs_found : (test : ClassParts → Bool) (program : List ClassParts) {before after : List Pending} (t : Climbs test program before after)
+    → or_found (above_any test t.interfaces.depth program t.interfaces.names.now) (above_any test t.superclass.depth program t.superclass.names.now) ≡ above_from test t.next.depth program t.name
+climbs_found test program t =
+    let d : ℕ = t.next.depth - 1 in
+    let above : (p : Pending) (xs : List (List ℕ)) → p.names.now ≡ xs → p.depth ≡ d → above_any test p.depth program p.names.now ≡ above_any test d program xs =
+    λ p xs e f. ap (above_any test p.depth program) e ∙ ap (λ n. above_any test n program xs) f in
+    ap (λ o. or_found o (above_any test t.superclass.depth program t.superclass.names.now)) (above t.interfaces t.class.interfaces t.interfaces_names t.interfaces_depth)
+    ∙ ap (or_found (above_any test d program t.class.interfaces)) (above t.superclass (option_to_list t.class.superclass) t.superclass_names t.superclass_depth)
+    ∙ sym (any_append test d program t.class.interfaces (option_to_list t.class.superclass)) ∙ sym (is_above test program t.next.depth t.name t.class t.goes_on t.named t.not_found)
+
+-- what the names of the superclass say of the class
+climbs_say : (test : ClassParts → Bool) (program : List ClassParts) {before after : List Pending} (t : Climbs test program before after)
+    → Says test program t.superclass (or_found (above_any test t.interfaces.depth program t.interfaces.names.now) (above_any test t.superclass.depth program t.superclass.names.now))
+climbs_say test program t =
+    let s = t.superclass in
+    let found : Option ClassParts = or_found (above_any test t.interfaces.depth program t.interfaces.names.now) (above_any test s.depth program s.names.now) in
+    let one : suc s.depth ≡ t.next.depth = omega (arith, t.superclass_depth, t.goes_on) in
+    subst (λ o. elim o as (λ _. Type 0) [ None ↦ Unit {0} | Some n ↦ Gives test (suc s.depth) program n found ]) (sym t.superclass_below)
+    (λ name is. ap (above_from test (suc s.depth) program) (one_name program t.number name t.name is t.numbered) ∙ ap (λ n. above_from test n program t.name) one ∙ sym (climbs_found test program t))
+
+-- the same is found, and said
+pub say_above : (test : ClassParts → Bool) (program : List ClassParts) {before after : List Pending} → Climbs test program before after → AllSay test program before
+    → (found_pending test program before ≡ found_pending test program after) × AllSay test program after
+say_above test program {after} t a =
+    let p = t.next in
+    let ps = t.taken.under in
+    let q = t.taken.left in
+    let s = t.superclass in
+    let i = t.interfaces in
     let whole : found_pending test program (q ∷ s ∷ i ∷ []) ≡ above_any test p.depth program p.names.now =
-    three_found test program q s i ∙ ap (λ o. or_found o (above_any test q.depth program q.names.now)) inner ∙ ap (or_found (above_from test p.depth program x)) left
-    ∙ sym (ap (λ ys. above_any test p.depth program ys) names ∙ any_cons test p.depth program x xs) in
-    let list : rs ≡ ps ++ q ∷ s ∷ i ∷ [] = h ∙ ap (λ ys. ys ++ i ∷ []) (g ∙ ap (λ ys. ys ++ s ∷ []) f) ∙ three ps in
-    let all = subst (AllSay test program) e a in
-    let was = say_one test program p (say_upper test program ps (p ∷ []) all) in
-    let one : suc s.depth ≡ p.depth = omega (arith, up, ne) in
-    let said : Says test program s (or_found (above_any test i.depth program i.names.now) (above_any test s.depth program s.names.now)) =
-    subst (λ o. elim o as (λ _. Type 0) [ None ↦ Unit {0} | Some n ↦ Gives test (suc s.depth) program n (or_found (above_any test i.depth program i.names.now) (above_any test s.depth program s.names.now)) ]) (sym same)
-    (λ name is. ap (above_from test (suc s.depth) program) (one_name program number name x is named) ∙ ap (λ n. above_from test n program x) one ∙ sym inner) in (
-      ap (found_pending test program) e ∙ found_append test program ps (p ∷ []) ∙ ap (λ o. or_found o (found_pending test program ps)) (one_pending test program p ∙ sym whole) ∙ sym (found_append test program ps (q ∷ s ∷ i ∷ [])) ∙ ap (found_pending test program) (sym list),
+    three_found test program q s i ∙ ap (λ o. or_found o (above_any test q.depth program q.names.now)) (climbs_found test program t) ∙ sym (others_found test program t.taken) in
+    let list : after ≡ ps ++ q ∷ s ∷ i ∷ [] =
+    t.now ∙ ap (λ ys. ys ++ i ∷ []) (t.pushed ∙ ap (λ ys. ys ++ s ∷ []) t.taken.now) ∙ append_assoc (ps ++ q ∷ []) (s ∷ []) (i ∷ []) ∙ append_assoc ps (q ∷ []) (s ∷ i ∷ []) in
+    let same : found_pending test program (p ∷ []) ≡ found_pending test program (q ∷ s ∷ i ∷ []) = one_pending test program p ∙ sym whole in
+    let all = subst (AllSay test program) t.taken.was a in
+    let was = say_one test program p (say_upper test program ps (p ∷ []) all) in (
+      ap (found_pending test program) t.taken.was ∙ found_append test program ps (p ∷ []) ∙ ap (λ o. or_found o (found_pending test program ps)) same
+          ∙ sym (found_append test program ps (q ∷ s ∷ i ∷ [])) ∙ ap (found_pending test program) (sym list),
       subst (AllSay test program) (sym list)
-          (say_other test program ps (p ∷ []) (q ∷ s ∷ i ∷ []) (one_pending test program p ∙ sym whole) all
-          (three_say test program q s i (says_as test program p q depth below _ (says_same test program p _ _ (sym whole) was)) said below')),
+          (say_other test program ps (p ∷ []) (q ∷ s ∷ i ∷ []) same all
+          (three_say test program q s i (says_as test program p q t.taken.depth t.taken.below _ (says_same test program p _ _ (sym whole) was)) (climbs_say test program t) t.interfaces_below)),
     )
-  where
-    three : (ps : List Pending) → ((ps ++ q ∷ []) ++ s ∷ []) ++ i ∷ [] ≡ ps ++ q ∷ s ∷ i ∷ []
-    three ps = append_assoc (ps ++ q ∷ []) (s ∷ []) (i ∷ []) ∙ append_assoc ps (q ∷ []) (s ∷ i ∷ [])
 
 -- no walk is kept yet
 pub none_kept : (test : ClassParts → Bool) (program : List ClassParts) (kept : BTreeMap ℕ ℕ) → kept.entries ≡ [] → AllVain test program kept

@@ -31,17 +31,17 @@ abbrev pub first_of : Option (List ℕ) → List ℕ → Option ℕ
 first_of None above = None
 first_of (Some name) above = slice_get above 0
 
-pub record IsItsFields (program : List ClassParts) (heirs : List Declared) (class : ℕ) (d : DeclaredFields) : Type 0 where
+pub record IsItsFields (program : List ClassParts) (declarations : List Declared) (class : ℕ) (d : DeclaredFields) : Type 0 where
   pub parts : ClassParts
   pub numbered : class_numbered program class ≡ Some parts
-  pub heir : Declared
-  pub heir_is : slice_get heirs class ≡ Some heir
-  pub superclass : d.superclass ≡ first_of parts.superclass heir.above.items
+  pub declaration : Declared
+  pub declaration_is : slice_get declarations class ≡ Some declaration
+  pub superclass : d.superclass ≡ first_of parts.superclass declaration.above.items
   pub fields : d.fields.now ≡ parts.fields
 
-pub record AreTheirFields (program : List ClassParts) (heirs : List Declared) (many : ℕ) (classes : List DeclaredFields) : Type 0 where
+pub record AreTheirFields (program : List ClassParts) (declarations : List Declared) (many : ℕ) (classes : List DeclaredFields) : Type 0 where
   pub length : length classes ≡ many
-  pub each : (class : ℕ) (d : DeclaredFields) → slice_get classes class ≡ Some d → IsItsFields program heirs class d
+  pub each : (class : ℕ) (d : DeclaredFields) → slice_get classes class ≡ Some d → IsItsFields program declarations class d
 
 -- the tables of a program's fields and superclasses
 pub record AreFieldTables (program : List ClassParts) (tables : FieldTables) : Type 0 where

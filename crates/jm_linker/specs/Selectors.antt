@@ -52,14 +52,14 @@ StandFrom program before c = (i : ℕ) (m : Method) → slice_get c.methods i �
     → slice_get (all_methods program) (before + i) ≡ Some (record { class = c; method = m })
 
 -- the class of a number with its superclass's number and the cells of its methods
-pub record IsItsMethods (program : List ClassParts) (heirs : List Declared) (class : ℕ) (d : Declared) : Type 0 where
+pub record IsItsMethods (program : List ClassParts) (declarations : List Declared) (class : ℕ) (d : Declared) : Type 0 where
   pub parts : ClassParts
   pub numbered : class_numbered program class ≡ Some parts
-  pub heir : Declared
-  pub heir_is : slice_get heirs class ≡ Some heir
-  pub superclass : d.above.items ≡ option_to_list (first_of parts.superclass heir.above.items)
+  pub declaration : Declared
+  pub declaration_is : slice_get declarations class ≡ Some declaration
+  pub superclass : d.above.items ≡ option_to_list (first_of parts.superclass declaration.above.items)
   pub own : AreOwnCells program parts parts.methods d.own.items
 
-pub record AreTheirMethods (program : List ClassParts) (heirs : List Declared) (many : ℕ) (classes : List Declared) : Type 0 where
+pub record AreTheirMethods (program : List ClassParts) (declarations : List Declared) (many : ℕ) (classes : List Declared) : Type 0 where
   pub length : length classes ≡ many
-  pub each : (class : ℕ) (d : Declared) → slice_get classes class ≡ Some d → IsItsMethods program heirs class d
+  pub each : (class : ℕ) (d : Declared) → slice_get classes class ≡ Some d → IsItsMethods program declarations class d

@@ -104,22 +104,6 @@ fn note_interfaces<'a>(
     Ok(())
 }
 
-fn note_parents<'a>(
-    alloc: Global,
-    classes: &Classes<'a>,
-    number: usize,
-    class: &'a ClassParts,
-    findings: &mut Vec<Finding>,
-) -> Result<(), AllocError>
-    ensures { OnOk result (findings.new.items ≡ findings.old.items ++ parents_found classes.now.program.now number class.now) }
-{
-    let answer = check_superclass(alloc, classes, class);
-    note(findings, Site::Superclass(number), answer)?;
-    let interfaces = class.interfaces.as_slice();
-    note_interfaces(alloc, classes, number, interfaces, findings)?;
-    Ok(())
-}
-
 fn note_all_parents<'a>(
     alloc: Global,
     classes: &Classes<'a>,
@@ -128,7 +112,11 @@ fn note_all_parents<'a>(
     ensures { OnOk result (findings.new.items ≡ findings.old.items ++ each (parents_found classes.now.program.now) 0 classes.now.program.now) }
 {
     for (number, class) in classes.program.iter().enumerate() {
-        note_parents(alloc, classes, number, class.parts(), findings)?;
+        let class = class.parts();
+        let answer = check_superclass(alloc, classes, class);
+        note(findings, Site::Superclass(number), answer)?;
+        let interfaces = class.interfaces.as_slice();
+        note_interfaces(alloc, classes, number, interfaces, findings)?;
     }
     Ok(())
 }

@@ -23,13 +23,6 @@ pub fn superclass_of(class: &ClassParts) -> &[Name]
     }
 }
 
-// Whether it is an interface, and its superclass another one than java/lang/Object (JVMS 4.1).
-fn is_strange_interface(class: &ClassParts, superclass: &Name) -> bool
-    ensures { result ≡ is_strange_interface class.now superclass.now }
-{
-    class.flags.has(AccessFlags::INTERFACE) && !superclass.is_object()
-}
-
 pub fn check_superclass<'a>(
     alloc: Global,
     classes: &Classes<'a>,
@@ -45,7 +38,7 @@ pub fn check_superclass<'a>(
         Some(above) => {
             if above.flags.has(AccessFlags::INTERFACE)
                 || is_sealed(name)
-                || is_strange_interface(class, name)
+                || class.flags.has(AccessFlags::INTERFACE) && !name.is_object()
             {
                 return Err(wrong_kind(alloc, name));
             }
@@ -72,19 +65,6 @@ pub fn check_interface<'a>(
     }
 }
 
-fn check_interfaces<'a>(
-    alloc: Global,
-    classes: &Classes<'a>,
-    names: &'a [Name],
-) -> Result<(), LinkFault>
-    ensures { Answers result (first_of_all (λ name. interface_of_kind name (class_named classes.now.program.now name)) names.now) }
-{
-    for name in names {
-        check_interface(alloc, classes, name)?;
-    }
-    Ok(())
-}
-
 /// That the superclass is there and can be extended, by an interface only java/lang/Object, and the
 /// superinterfaces are there and are interfaces.
 pub fn check_parents<'a>(
@@ -95,5 +75,9 @@ pub fn check_parents<'a>(
     ensures { Answers result (parents_refusal classes.now.program.now class.now) }
 {
     check_superclass(alloc, classes, class)?;
-    check_interfaces(alloc, classes, class.interfaces.as_slice())
+    let interfaces = class.interfaces.as_slice();
+    for name in interfaces {
+        check_interface(alloc, classes, name)?;
+    }
+    Ok(())
 }

@@ -11,24 +11,6 @@ use crate::types::returns_nothing;
 use jm_linked::{PrintMethod, Printed, letter};
 use jm_program::{BaseType, ClassRef, ElementType, FieldRef, FieldType, MethodRef, Name};
 
-fn is_system_ref(class: &ClassRef) -> bool
-    ensures { result ≡ is_class_called class.now system_class }
-{
-    match class {
-        ClassRef::Class(name) => is_system(name),
-        ClassRef::Array(_) => false,
-    }
-}
-
-fn is_print_stream_ref(class: &ClassRef) -> bool
-    ensures { result ≡ is_class_called class.now print_stream_class }
-{
-    match class {
-        ClassRef::Class(name) => is_print_stream(name),
-        ClassRef::Array(_) => false,
-    }
-}
-
 fn is_print_stream_type(field_type: &FieldType) -> bool
     ensures { result ≡ same_type field_type.now (class_type print_stream_class) }
 {
@@ -43,9 +25,10 @@ fn is_print_stream_type(field_type: &FieldType) -> bool
 pub fn is_system_out(field: &FieldRef) -> bool
     ensures { result ≡ is_system_out field.now }
 {
-    is_system_ref(&field.class)
-        && field.name.is_text(b"out")
-        && is_print_stream_type(&field.descriptor)
+    let ClassRef::Class(class) = &field.class else {
+        return false;
+    };
+    is_system(class) && field.name.is_text(b"out") && is_print_stream_type(&field.descriptor)
 }
 
 fn is_base(field_type: &FieldType, base: BaseType) -> bool
@@ -96,12 +79,6 @@ fn is_one_printed(types: &[FieldType], printed: Printed) -> bool
 }
 
 #[tactic(auto, using(crate::proofs::TypeLaws::same_types_none))]
-fn are_no_types(types: &[FieldType]) -> bool
-    ensures { result ≡ same_types types.now [] }
-{
-    types.is_empty()
-}
-
 fn are_print_parameters(types: &[FieldType], method: PrintMethod) -> bool
     ensures { result ≡ same_types types.now (print_parameters method) }
 {
@@ -109,14 +86,17 @@ fn are_print_parameters(types: &[FieldType], method: PrintMethod) -> bool
         PrintMethod::Print(printed) | PrintMethod::Println(printed) => {
             is_one_printed(types, printed)
         }
-        PrintMethod::EndLine => are_no_types(types),
+        PrintMethod::EndLine => types.is_empty(),
     }
 }
 
 fn is_print(method: &MethodRef, print: PrintMethod) -> bool
     ensures { result ≡ is_print method.now print }
 {
-    is_print_stream_ref(&method.class)
+    let ClassRef::Class(class) = &method.class else {
+        return false;
+    };
+    is_print_stream(class)
         && is_print_name(&method.name, print)
         && are_print_parameters(method.descriptor.parameters.as_slice(), print)
         && returns_nothing(&method.descriptor)

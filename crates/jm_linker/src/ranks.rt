@@ -3,13 +3,12 @@
 
 ghost use Rattle.std.specs.Prelude.{◌≡◌, ◌&&◌, ◌<◌, ◌^◌};
 ghost use Rattle.std.specs.List.{list_all};
-ghost use Rattle.jm_linker.specs.Ranks.{rank_of, is_under, is_superclass_under, are_parents_under, is_over_parents, has_none_over};
+ghost use Rattle.jm_linker.specs.Ranks.{rank_of, is_under, are_parents_under, is_over_parents, has_none_over};
 ghost use Rattle.jm_linker.specs.BuiltInClasses.{built_in_classes};
 
 use crate::classes::Classes;
-use crate::members::Members;
 use crate::parents::superclass_of;
-use jm_program::{Class, ClassParts, Name};
+use jm_program::{ClassParts, Name};
 use std::alloc::{AllocError, Global};
 use std::slice;
 
@@ -22,14 +21,6 @@ struct Pending<'a> {
 }
 
 impl<'a> Pending<'a> {
-    fn of(number: usize, class: &'a ClassParts) -> Pending<'a> {
-        Pending {
-            number,
-            superclass: superclass_of(class),
-            interfaces: class.interfaces.as_slice(),
-        }
-    }
-
     // The next name, and what is left after it.
     fn split(self) -> Option<(&'a Name, Pending<'a>)> {
         if let Some((name, superclass)) = self.superclass.split_first() {
@@ -72,19 +63,6 @@ fn write(numbers: &mut [u32], number: usize, new: u32) {
 }
 
 impl<'a> Ranking<'a> {
-    // No class of so many has a rank.
-    fn new(alloc: Global, count: usize) -> Result<Ranking<'a>, AllocError> {
-        Ok(Ranking {
-            ranks: vec![in alloc; 0; count]?,
-            places: vec![in alloc; 0; count]?,
-            lowest: vec![in alloc; 0; count]?,
-            open: Vec::new(alloc),
-            pending: Vec::new(alloc),
-            last_place: 0,
-            last_rank: 0,
-        })
-    }
-
     fn begin(&mut self, classes: &Classes<'a>, number: usize) -> Result<(), AllocError> {
         let Some(class) = classes.program.get(number) else {
             return Ok(());
@@ -93,7 +71,12 @@ impl<'a> Ranking<'a> {
         write(&mut self.places, number, self.last_place);
         write(&mut self.lowest, number, self.last_place);
         self.open.push(number)?;
-        self.pending.push(Pending::of(number, class.parts()))?;
+        let class = class.parts();
+        self.pending.push(Pending {
+            number,
+            superclass: superclass_of(class),
+            interfaces: class.interfaces.as_slice(),
+        })?;
         Ok(())
     }
 
@@ -102,23 +85,6 @@ impl<'a> Ranking<'a> {
         if place < read(&self.lowest, number) {
             write(&mut self.lowest, number, place);
         }
-    }
-
-    // Goes to a class right above one, unless the walk has come to it.
-    fn reach(
-        &mut self,
-        classes: &Classes<'a>,
-        from: usize,
-        number: usize,
-    ) -> Result<(), AllocError> {
-        let place = read(&self.places, number);
-        if place == 0 {
-            return self.begin(classes, number);
-        }
-        if read(&self.ranks, number) == 0 {
-            self.lower(from, place);
-        }
-        Ok(())
     }
 
     // Gives one rank to the class and to all that the walk came to after it.
@@ -146,16 +112,24 @@ impl<'a> Ranking<'a> {
         }
     }
 
+    // Goes to the next class right above one, unless the walk has come to it.
     fn go_on(&mut self, classes: &Classes<'a>, next: Pending<'a>) -> Result<(), AllocError> {
         let Some((name, others)) = next.split() else {
             self.end(next.number);
             return Ok(());
         };
         self.pending.push(others)?;
-        match classes.number(name) {
-            Some(number) => self.reach(classes, next.number, number),
-            None => Ok(()),
+        let Some(number) = classes.number(name) else {
+            return Ok(());
+        };
+        let place = read(&self.places, number);
+        if place == 0 {
+            return self.begin(classes, number);
         }
+        if read(&self.ranks, number) == 0 {
+            self.lower(next.number, place);
+        }
+        Ok(())
     }
 
     // Walks from a class up, unless the walk has come to it.
@@ -176,8 +150,17 @@ impl<'a> Ranking<'a> {
 /// The ranks of the program's classes by their numbers: the same rank for classes that are above
 /// one another.
 pub fn ranks_of<'a>(alloc: Global, classes: &Classes<'a>) -> Result<Vec<u32>, AllocError> {
-    let mut ranking = Ranking::new(alloc, classes.program.len())?;
-    for number in 0..classes.program.len() {
+    let count = classes.program.len();
+    let mut ranking = Ranking {
+        ranks: vec![in alloc; 0; count]?,
+        places: vec![in alloc; 0; count]?,
+        lowest: vec![in alloc; 0; count]?,
+        open: Vec::new(alloc),
+        pending: Vec::new(alloc),
+        last_place: 0,
+        last_rank: 0,
+    };
+    for number in 0..count {
         ranking.walk(classes, number)?;
     }
     Ok(ranking.ranks)
@@ -196,35 +179,15 @@ fn rank_of<'a>(classes: &Classes<'a>, ranks: &[u32], name: &'a Name) -> u64
     }
 }
 
-fn is_under<'a>(classes: &Classes<'a>, ranks: &[u32], rank: u64, name: &'a Name) -> bool
-    ensures { result ≡ is_under classes.now.program.now ranks.now rank name.now }
-{
-    rank_of(classes, ranks, name) < rank
-}
-
 fn are_under<'a>(classes: &Classes<'a>, ranks: &[u32], rank: u64, names: &'a [Name]) -> bool
     ensures { result ≡ list_all (is_under classes.now.program.now ranks.now rank) names.now }
 {
     for name in names {
-        if !is_under(classes, ranks, rank, name) {
+        if rank_of(classes, ranks, name) >= rank {
             return false;
         }
     }
     true
-}
-
-fn is_superclass_under<'a>(
-    classes: &Classes<'a>,
-    ranks: &[u32],
-    rank: u64,
-    superclass: &'a Option<Name>,
-) -> bool
-    ensures { result ≡ is_superclass_under classes.now.program.now ranks.now rank superclass.now }
-{
-    match superclass {
-        Some(name) => is_under(classes, ranks, rank, name),
-        None => true,
-    }
 }
 
 fn are_parents_under<'a>(
@@ -235,7 +198,7 @@ fn are_parents_under<'a>(
 ) -> bool
     ensures { result ≡ are_parents_under classes.now.program.now ranks.now rank class.now }
 {
-    is_superclass_under(classes, ranks, rank, &class.superclass)
+    are_under(classes, ranks, rank, superclass_of(class))
         && are_under(classes, ranks, rank, class.interfaces.as_slice())
 }
 
@@ -247,40 +210,23 @@ pub fn is_over_parents<'a>(classes: &Classes<'a>, ranks: &[u32], class: &'a Clas
     are_parents_under(classes, ranks, rank, class)
 }
 
-fn has_none_over<'a>(classes: &Classes<'a>, ranks: &[u32], class: &'a ClassParts) -> bool
-    ensures { result ≡ has_none_over classes.now.program.now ranks.now class.now }
+/// Whether no class right above another has a higher rank.
+pub fn are_ranks<'a>(classes: &Classes<'a>, ranks: &[u32]) -> bool
+    ensures { result ≡ (list_all (has_none_over classes.now.program.now ranks.now) classes.now.program.now
+        && list_all (are_parents_under classes.now.program.now ranks.now 1) built_in_classes) }
 {
-    let rank = rank_of(classes, ranks, &class.name);
-    are_parents_under(classes, ranks, rank + 1, class)
-}
-
-fn have_none_over<'a>(classes: &Classes<'a>, ranks: &[u32], program: &'a [Class]) -> bool
-    ensures { result ≡ list_all (has_none_over classes.now.program.now ranks.now) program.now }
-{
-    for class in program {
-        if !has_none_over(classes, ranks, class.parts()) {
+    for class in classes.program {
+        let class = class.parts();
+        let rank = rank_of(classes, ranks, &class.name);
+        if !are_parents_under(classes, ranks, rank + 1, class) {
             return false;
         }
     }
-    true
-}
-
-fn are_built_ins_lowest<'a>(classes: &Classes<'a>, ranks: &[u32], built_ins: &[Members<'a>]) -> bool
-    ensures { result ≡ list_all (λ m. are_parents_under classes.now.program.now ranks.now 1 m.class.now) built_ins.now }
-{
+    let built_ins = classes.built_ins.as_slice();
     for members in built_ins {
         if !are_parents_under(classes, ranks, 1, members.class) {
             return false;
         }
     }
     true
-}
-
-/// Whether no class right above another has a higher rank.
-pub fn are_ranks<'a>(classes: &Classes<'a>, ranks: &[u32]) -> bool
-    ensures { result ≡ (list_all (has_none_over classes.now.program.now ranks.now) classes.now.program.now
-        && list_all (are_parents_under classes.now.program.now ranks.now 1) built_in_classes) }
-{
-    have_none_over(classes, ranks, classes.program)
-        && are_built_ins_lowest(classes, ranks, &classes.built_ins)
 }

@@ -126,15 +126,6 @@ fn is_static_use(op: FieldOp) -> bool
     }
 }
 
-fn is_stored(op: FieldOp) -> bool
-    ensures { result ≡ is_stored op }
-{
-    match op {
-        FieldOp::PutStatic => true,
-        _ => false,
-    }
-}
-
 // The class that declares the field, and the field's number there.
 fn check_found_field<'a>(
     alloc: Global,
@@ -160,13 +151,13 @@ fn check_found_field<'a>(
     ) {
         return Err(wrong_kind(alloc, name));
     }
-    if is_stored(op) && is_system(&members.class.name) {
-        return Err(wrong_kind(alloc, name));
+    match op {
+        FieldOp::PutStatic if is_system(&members.class.name) => Err(wrong_kind(alloc, name)),
+        _ => Ok(FoundMember {
+            class: members.class,
+            number: found.number,
+        }),
     }
-    Ok(FoundMember {
-        class: members.class,
-        number: found.number,
-    })
 }
 
 // The field of the class of the name, or above it.
@@ -215,15 +206,6 @@ fn is_interface_use(op: InvokeOp) -> bool
     }
 }
 
-fn is_special_use(op: InvokeOp) -> bool
-    ensures { result ≡ is_special_use op }
-{
-    match op {
-        InvokeOp::Special => true,
-        _ => false,
-    }
-}
-
 fn is_static_call(op: InvokeOp) -> bool
     ensures { result ≡ is_static_call op }
 {
@@ -237,10 +219,11 @@ fn is_static_call(op: InvokeOp) -> bool
 fn check_init(alloc: Global, op: InvokeOp, name: &Name) -> Result<(), LinkFault>
     ensures { Answers result (init_refusal op name.now) }
 {
-    if name.is_init() && !is_special_use(op) {
-        return Err(wrong_kind(alloc, name));
+    match op {
+        InvokeOp::Special => Ok(()),
+        _ if name.is_init() => Err(wrong_kind(alloc, name)),
+        _ => Ok(()),
     }
-    Ok(())
 }
 
 // The class that declares the method, and the method's number there.

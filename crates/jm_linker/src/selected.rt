@@ -1,11 +1,10 @@
 // Which methods are selected for the objects of each class (JVMS 5.4.5, 6.5 invokevirtual).
 
-ghost use Rattle.std.specs.Prelude.{◌≡◌, ◌+◌, ◌-◌, ◌<◌, ◌^◌, false, IfOk, IsTrue, Some, is_some, length, option_to_list};
+ghost use Rattle.std.specs.Prelude.{◌≡◌, ◌+◌, ◌-◌, ◌<◌, ◌^◌, false, IfOk, Some, length, option_to_list};
 ghost use Rattle.jm_world.specs.Classes.{height};
 ghost use Rattle.jm_world.specs.Loads.{Loads};
 ghost use Rattle.jm_world.specs.Resolution.{counts};
 ghost use Rattle.jm_tables.specs.Inheriting.{IsOrder};
-ghost use Rattle.jm_linked.specs.Methods.{selector_of};
 ghost use Rattle.jm_linked.specs.Tables.{AreSelected};
 ghost use Rattle.jm_linker.specs.Inherited.{AreClasses};
 ghost use Rattle.jm_linker.specs.Selectors.{AreOwnCells, AreTheirMethods, StandFrom};
@@ -22,22 +21,6 @@ fn can_be_selected(method: &Method) -> bool
     ensures { result ≡ counts false method.now }
 {
     !method.flags.has(AccessFlags::STATIC) && !method.flags.has(AccessFlags::PRIVATE)
-}
-
-// The selector of the name and type of a method that is among those of all classes.
-fn selector_of<'a>(
-    alloc: Global,
-    classes: &Classes<'a>,
-    method: &'a Method,
-) -> Result<u32, AllocError>
-    requires { IsTrue (is_some (selector_of classes.now.program.now method.now.name method.now.descriptor)) }
-    ensures { IfOk result (λ n. selector_of classes.now.program.now method.now.name method.now.descriptor ≡ Some n) }
-{
-    let key = method_key(alloc, &method.name, &method.descriptor)?;
-    let Some(selector) = classes.selector(&key) else {
-        unreachable!()
-    };
-    Ok(selector)
 }
 
 // The number, among the methods of all classes, of one of a class before whose own so many stand.
@@ -67,7 +50,10 @@ fn own_methods<'a>(
     let mut own = Vec::new(alloc);
     for (index, method) in class.methods.as_slice().iter().enumerate() {
         if can_be_selected(method) {
-            let column = selector_of(alloc, classes, method)?;
+            let key = method_key(alloc, &method.name, &method.descriptor)?;
+            let Some(column) = classes.selector(&key) else {
+                unreachable!()
+            };
             let number = method_number(before, index)?;
             own.push(Cell { column, number })?;
         }
@@ -89,18 +75,18 @@ fn list_of(alloc: Global, number: Option<u32>) -> Result<Vec<u32>, AllocError>
 fn methods_of<'a>(
     alloc: Global,
     classes: &Classes<'a>,
-    heirs: &[Declared],
+    declarations: &[Declared],
 ) -> Result<Vec<Declared>, AllocError>
-    requires { AreClasses classes.now.program.now (height classes.now.program.now) heirs.now }
-    ensures { IfOk result (λ methods. AreTheirMethods classes.now.program.now heirs.now (length heirs.now) methods.items) }
+    requires { AreClasses classes.now.program.now (height classes.now.program.now) declarations.now }
+    ensures { IfOk result (λ methods. AreTheirMethods classes.now.program.now declarations.now (length declarations.now) methods.items) }
 {
-    let mut methods = Vec::with_capacity(alloc, heirs.len())?;
+    let mut methods = Vec::with_capacity(alloc, declarations.len())?;
     let mut before: usize = 0;
-    for (number, heir) in heirs.iter().enumerate() {
+    for (number, declaration) in declarations.iter().enumerate() {
         let Some(class) = classes.class_at(number) else {
             unreachable!()
         };
-        let above = list_of(alloc, superclass_number(class, heir))?;
+        let above = list_of(alloc, superclass_number(class, declaration))?;
         let own = own_methods(alloc, classes, before, class)?;
         methods.push(Declared { above, own })?;
         let Some(next) = before.checked_add(class.methods.as_slice().len()) else {
@@ -117,18 +103,18 @@ fn methods_of<'a>(
 pub fn selected_of<'a>(
     alloc: Global,
     classes: &Classes<'a>,
-    heirs: &[Declared],
+    declarations: &[Declared],
     order: &[u32],
 ) -> Result<MethodTable, AllocError>
     requires loads { Loads classes.now.program.now }
-    requires heirs { AreClasses classes.now.program.now (height classes.now.program.now) heirs.now }
-    requires order { IsOrder heirs.now order.now }
+    requires declarations { AreClasses classes.now.program.now (height classes.now.program.now) declarations.now }
+    requires order { IsOrder declarations.now order.now }
     ensures { IfOk result (λ selected. AreSelected classes.now.program.now selected) }
 {
     let Ok(selectors) = u32::try_from(classes.method_count()) else {
         return Err(AllocError);
     };
-    let methods = methods_of(alloc, classes, heirs)?;
+    let methods = methods_of(alloc, classes, declarations)?;
     let Some(selected) = MethodTable::of(alloc, selectors, &methods, order)? else {
         unreachable!()
     };

@@ -70,34 +70,34 @@ fn own_cell(alloc: Global, column: u32) -> Result<Vec<Cell>, AllocError>
     Ok(own)
 }
 
-// Each class, of which there are so many, with the numbers of those right above it.
-fn heirs_of<'a>(
+// Each class with the numbers of those right above it.
+fn declarations_of<'a>(
     alloc: Global,
     classes: &Classes<'a>,
     count: u32,
 ) -> Result<Vec<Declared>, AllocError>
     requires count { count ≡ height classes.now.program.now }
     requires loads { Loads classes.now.program.now }
-    ensures { IfOk result (λ heirs. AreClasses classes.now.program.now (height classes.now.program.now) heirs.items) }
+    ensures { IfOk result (λ declarations. AreClasses classes.now.program.now (height classes.now.program.now) declarations.items) }
 {
-    let mut heirs = Vec::with_capacity(alloc, count as usize)?;
+    let mut declarations = Vec::with_capacity(alloc, count as usize)?;
     for number in 0..count {
         let Some(class) = classes.class_at(number as usize) else {
             unreachable!()
         };
         let above = above_of(alloc, classes, class)?;
         let own = own_cell(alloc, number)?;
-        heirs.push(Declared { above, own })?;
+        declarations.push(Declared { above, own })?;
     }
-    Ok(heirs)
+    Ok(declarations)
 }
 
 /// The number of the superclass, which stands first among those right above a class.
-pub fn superclass_number(class: &ClassParts, heir: &Declared) -> Option<u32>
-    ensures { result ≡ first_of class.now.superclass heir.now.above.items }
+pub fn superclass_number(class: &ClassParts, declaration: &Declared) -> Option<u32>
+    ensures { result ≡ first_of class.now.superclass declaration.now.above.items }
 {
     match class.superclass {
-        Some(_) => Some(*heir.above.first()?),
+        Some(_) => Some(*declaration.above.first()?),
         None => None,
     }
 }
@@ -106,18 +106,18 @@ pub fn superclass_number(class: &ClassParts, heir: &Declared) -> Option<u32>
 fn fields_of<'a>(
     alloc: Global,
     classes: &Classes<'a>,
-    heirs: &[Declared],
+    declarations: &[Declared],
 ) -> Result<Vec<DeclaredFields<'a>>, AllocError>
-    requires { AreClasses classes.now.program.now (height classes.now.program.now) heirs.now }
-    ensures { IfOk result (λ fields. AreTheirFields classes.now.program.now heirs.now (length heirs.now) fields.items) }
+    requires { AreClasses classes.now.program.now (height classes.now.program.now) declarations.now }
+    ensures { IfOk result (λ fields. AreTheirFields classes.now.program.now declarations.now (length declarations.now) fields.items) }
 {
-    let mut fields = Vec::with_capacity(alloc, heirs.len())?;
-    for (number, heir) in heirs.iter().enumerate() {
+    let mut fields = Vec::with_capacity(alloc, declarations.len())?;
+    for (number, declaration) in declarations.iter().enumerate() {
         let Some(class) = classes.class_at(number) else {
             unreachable!()
         };
         fields.push(DeclaredFields {
-            superclass: superclass_number(class, heir),
+            superclass: superclass_number(class, declaration),
             fields: class.fields.as_slice(),
         })?;
     }
@@ -163,12 +163,12 @@ fn turn_of_built_in<'a>(classes: &Classes<'a>, number: usize, short: u32) -> Tur
     }
 }
 
-// When each class is expected.
-fn turns_of<'a>(
+// All classes in the order in which they are expected.
+fn expected_order<'a>(
     alloc: Global,
     classes: &Classes<'a>,
     ranks: &[u32],
-) -> Result<Vec<Turn>, AllocError> {
+) -> Result<Vec<u32>, AllocError> {
     let built_ins = classes.built_ins.len();
     let mut turns = Vec::with_capacity(alloc, classes.height())?;
     for number in 0..classes.height() {
@@ -185,16 +185,6 @@ fn turns_of<'a>(
         };
         turns.push(turn)?;
     }
-    Ok(turns)
-}
-
-// All classes in the order in which they are expected.
-fn expected_order<'a>(
-    alloc: Global,
-    classes: &Classes<'a>,
-    ranks: &[u32],
-) -> Result<Vec<u32>, AllocError> {
-    let mut turns = turns_of(alloc, classes, ranks)?;
     turns.sort_unstable_by_key(|turn| (turn.rank, turn.depth, turn.number));
     let mut order = Vec::with_capacity(alloc, turns.len())?;
     for turn in turns.as_slice() {
@@ -215,15 +205,15 @@ struct FieldTables {
 fn field_tables<'a>(
     alloc: Global,
     classes: &Classes<'a>,
-    heirs: &[Declared],
+    declarations: &[Declared],
     order: &[u32],
 ) -> Result<FieldTables, AllocError>
     requires loads { Loads classes.now.program.now }
-    requires heirs { AreClasses classes.now.program.now (height classes.now.program.now) heirs.now }
-    requires order { IsOrder heirs.now order.now }
+    requires declarations { AreClasses classes.now.program.now (height classes.now.program.now) declarations.now }
+    requires order { IsOrder declarations.now order.now }
     ensures { IfOk result (λ tables. AreFieldTables classes.now.program.now tables) }
 {
-    let fields = fields_of(alloc, classes, heirs)?;
+    let fields = fields_of(alloc, classes, declarations)?;
     let Some(layout) = Layout::of(alloc, &fields, order)? else {
         unreachable!()
     };
@@ -263,19 +253,19 @@ fn own_tables<'a>(alloc: Global, classes: &Classes<'a>) -> Result<OwnTables, All
 fn tables_in<'a>(
     alloc: Global,
     classes: &Classes<'a>,
-    heirs: &[Declared],
+    declarations: &[Declared],
     order: &[u32],
 ) -> Result<Tables, AllocError>
     requires loads { Loads classes.now.program.now }
-    requires heirs { AreClasses classes.now.program.now (height classes.now.program.now) heirs.now }
-    requires order { IsOrder heirs.now order.now }
+    requires declarations { AreClasses classes.now.program.now (height classes.now.program.now) declarations.now }
+    requires order { IsOrder declarations.now order.now }
     ensures { IfOk result (λ tables. AreTables classes.now.program.now tables) }
 {
-    let Some(hierarchy) = Hierarchy::of(alloc, heirs, order)? else {
+    let Some(hierarchy) = Hierarchy::of(alloc, declarations, order)? else {
         unreachable!()
     };
-    let of_fields = field_tables(alloc, classes, heirs, order)?;
-    let selected = selected_of(alloc, classes, heirs, order)?;
+    let of_fields = field_tables(alloc, classes, declarations, order)?;
+    let selected = selected_of(alloc, classes, declarations, order)?;
     let own = own_tables(alloc, classes)?;
     Ok(Tables {
         hierarchy,
@@ -306,8 +296,8 @@ pub fn tables_of<'a>(
     let Ok(count) = u32::try_from(classes.height()) else {
         return Err(AllocError);
     };
-    let heirs = heirs_of(alloc, classes, count)?;
+    let declarations = declarations_of(alloc, classes, count)?;
     let expected = expected_order(alloc, classes, ranks)?;
-    let order = order_of(alloc, &heirs, count, &expected)?;
-    tables_in(alloc, classes, &heirs, &order)
+    let order = order_of(alloc, &declarations, count, &expected)?;
+    tables_in(alloc, classes, &declarations, &order)
 }

@@ -1,10 +1,9 @@
 // Walks from a name up, over superinterfaces and superclasses (JVMS 5.4.3).
 
-ghost use Rattle.std.specs.Prelude.{◌≡◌, MatchResult, OnOk, Bool, List, None, suc, true, is_some, option_map, option_to_list};
+ghost use Rattle.std.specs.Prelude.{◌≡◌, MatchResult, OnOk, Bool, List, None, suc, true, option_map};
 ghost use Rattle.jm_program.specs.declared.class.ClassParts.{ClassParts};
-ghost use Rattle.jm_world.specs.Classes.{height, method_in};
+ghost use Rattle.jm_world.specs.Classes.{height};
 ghost use Rattle.jm_world.specs.Hierarchy.{chain};
-ghost use Rattle.jm_world.specs.Resolution.{instance_in};
 ghost use Rattle.jm_linker.specs.Answers.{IsOutOfMemory};
 ghost use Rattle.jm_linker.specs.Walks.{AllVain, Gives, Says, sought_in, above_any, first_along};
 
@@ -12,11 +11,11 @@ use crate::classes::Classes;
 use crate::fault::LinkFault;
 use crate::members::Members;
 use crate::name::is_same;
-use crate::sought::{Sought, SoughtMethod};
-use jm_program::{AccessFlags, ClassParts, Name};
+use crate::parents::superclass_of;
+use crate::sought::Sought;
+use jm_program::{AccessFlags, Name};
 use std::alloc::{AllocError, Global};
 use std::collections::BTreeMap;
-use std::slice;
 
 // Names that a walk has still to look at, and how many classes up it may go from them. Where they
 // are the last ones above a class, its number stands with them.
@@ -25,16 +24,6 @@ pub struct Pending<'a> {
     names: &'a [Name],
     depth: usize,
     below: Option<usize>,
-}
-
-// Whether the class declares the method as one of instances.
-fn declares_instance<'a>(members: &Members<'a>, sought: &SoughtMethod<'a>) -> bool
-    ensures { result ≡ is_some (instance_in true (method_in members.now.class.now.methods sought.now.method.now.name sought.now.method.now.descriptor)) }
-{
-    match members.method(&sought.key) {
-        Some(found) => !found.method.flags.has(AccessFlags::STATIC),
-        None => false,
-    }
 }
 
 impl<'a> Sought<'_, 'a> {
@@ -46,17 +35,11 @@ impl<'a> Sought<'_, 'a> {
             Sought::Class(name) => is_same(&members.class.name, name),
             Sought::Field(sought) => members.field(&sought.key).is_some(),
             Sought::Method(sought) => members.method(&sought.key).is_some(),
-            Sought::Instance(sought) => declares_instance(members, sought),
+            Sought::Instance(sought) => match members.method(&sought.key) {
+                Some(found) => !found.method.flags.has(AccessFlags::STATIC),
+                None => false,
+            },
         }
-    }
-}
-
-fn superclass_of(class: &ClassParts) -> &[Name]
-    ensures { result.now ≡ option_to_list class.now.superclass }
-{
-    match &class.superclass {
-        Some(name) => slice::from_ref(name),
-        None => &[],
     }
 }
 

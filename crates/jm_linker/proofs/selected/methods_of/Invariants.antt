@@ -5,4 +5,4 @@ use Rattle.jm_linker.proofs.SelectedLaws.{methods_before}
 use Rattle.jm_linker.proofs.selected.methods_of.Given as goal
 
 abbrev pub invariant-loop-number : goal.invariant-loop-number
-invariant-loop-number l = (l.before ≡ methods_before l.classes.program.now l.number) × AreTheirMethods l.classes.program.now l.heirs l.number l.methods.items
+invariant-loop-number l = (l.before ≡ methods_before l.classes.program.now l.number) × AreTheirMethods l.classes.program.now l.declarations l.number l.methods.items

@@ -19,26 +19,26 @@ use Rattle.jm_linker.proofs.selected.selected_of.Goals as goal
 pub of-requires : goal.of-requires
 of-requires c =
     let program = c.args.classes.now.program.now in
-    let heirs = c.args.heirs.now in
+    let declarations = c.args.declarations.now in
     let many = c.in-Ok.ensures.1 ∙ c.method_count.ensures in
     subst (λ n. All (λ (d : Declared). All (IsCellOf n) d.own.items) c.deref.result.now) (sym many)
-    (method_cells program heirs (length heirs) c.deref.result.now
-    (subst (AreTheirMethods program heirs (length heirs)) (sym c.deref.ensures.value) c.in_ok-methods.ensures))
+    (method_cells program declarations (length declarations) c.deref.result.now
+    (subst (AreTheirMethods program declarations (length declarations)) (sym c.deref.ensures.value) c.in_ok-methods.ensures))
 
 pub unreachable-requires : goal.unreachable-requires
 unreachable-requires c =
-    let order = methods_order c.args.classes.now.program.now c.args.heirs.now c.in_ok-methods.methods.items c.args.order.now c.in_ok-methods.ensures c.requires.order in
+    let order = methods_order c.args.classes.now.program.now c.args.declarations.now c.in_ok-methods.methods.items c.args.order.now c.in_ok-methods.ensures c.requires.order in
     not_none _ (c.in_ok-selected.ensures.made (subst (λ (ds : List Declared). IsOrder ds c.args.order.now) (sym c.deref.ensures.value) order)) c.in_default-2.is
 
 pub returns : goal.returns
 returns c = λ name t selector class e within.
     let program = c.args.classes.now.program.now in
     let names = all_names program in
-    let heirs = c.args.heirs.now in
+    let declarations = c.args.declarations.now in
     let many = c.in-Ok.ensures.1 ∙ c.method_count.ensures in
-    let gathered = subst (AreTheirMethods program heirs (length heirs)) (sym c.deref.ensures.value) c.in_ok-methods.ensures in
+    let gathered = subst (AreTheirMethods program declarations (length declarations)) (sym c.deref.ensures.value) c.in_ok-methods.ensures in
     let bound = subst (λ n. selector < n) (sym many) (selector_within program name t selector e) in
     subst (λ o. IfSome o (λ table. (k : ℕ) → k < length names → IsNumberOf (all_methods program) (row_at table k selector) (select program (name_of names k) name t)))
     c.in-Some.is
     (c.in_ok-selected.ensures.selected program names (all_methods program) selector name t bound
-    (are_methods program heirs c.deref.result.now c.requires.loads c.requires.heirs gathered name t selector e)) class within
+    (are_methods program declarations c.deref.result.now c.requires.loads c.requires.declarations gathered name t selector e)) class within

@@ -12,22 +12,22 @@ use Rattle.jm_linker.proofs.tables.fields_of.Goals as goal
 pub unreachable-requires : goal.unreachable-requires
 unreachable-requires c =
     let number = c.loop-number.number in
-    let heir = get_there c.args.heirs.now number (omega arith) in
-    let class = c.requires.each number heir.0 heir.1 in
+    let declaration = get_there c.args.declarations.now number (omega arith) in
+    let class = c.requires.each number declaration.0 declaration.1 in
     not_none (class_numbered c.args.classes.now.program.now number) (ap is_some class.numbered) (sym c.in_default.ensures)
 
 pub loop-number-preserved : goal.loop-number-preserved
 loop-number-preserved c =
     let program = c.args.classes.now.program.now in
-    let heirs = c.args.heirs.now in
+    let declarations = c.args.declarations.now in
     let i = c.loop-number.number in
-    let heir = c.index-heirs-number.result in
-    subst (AreTheirFields program heirs (i + 1)) (sym c.in_ok-push.ensures.items)
-    (fields_more program heirs i c.loop-number.fields.items _ c.loop-number.invariant (record {
+    let declaration = c.index-declarations-number.result in
+    subst (AreTheirFields program declarations (i + 1)) (sym c.in_ok-push.ensures.items)
+    (fields_more program declarations i c.loop-number.fields.items _ c.loop-number.invariant (record {
       parts = c.in-Some.class.now;
       numbered = sym c.in-Some.ensures;
-      heir = heir;
-      heir_is = slice_get_read heirs (length heirs) i heir refl (omega arith) c.index-heirs-number.is;
+      declaration = declaration;
+      declaration_is = slice_get_read declarations (length declarations) i declaration refl (omega arith) c.index-declarations-number.is;
       superclass = c.superclass_number.ensures;
       fields = c.as_slice.ensures;
     }))

@@ -13,7 +13,7 @@ use Rattle.jm_linker.proofs.tables.tables_in.Goals as goal
 pub of-requires : goal.of-requires
 of-requires c =
     let program = c.args.classes.now.program.now in
-    own_cells program (height program) c.args.heirs.now c.requires.heirs
+    own_cells program (height program) c.args.declarations.now c.requires.declarations
 
 pub unreachable-requires : goal.unreachable-requires
 unreachable-requires c = not_none _ (c.in_ok-hierarchy.ensures.made c.requires.order) c.in_default.is
@@ -25,7 +25,7 @@ returns c =
     record {
       hierarchy = subst (λ o. IfSome o (λ h. (class above : ℕ) → class < length names → above < length names
           → is_above h class above ≡ is_subclass program (name_of names class) (name_of names above)))
-          c.in-Some.is (c.in_ok-hierarchy.ensures.above_them program names (are_heirs program c.args.heirs.now c.requires.loads c.requires.heirs));
+          c.in-Some.is (c.in_ok-hierarchy.ensures.above_them program names (are_heirs program c.args.declarations.now c.requires.loads c.requires.declarations));
       layout = c.in_ok-of_fields.ensures.layout;
       kinds = c.in_ok-of_fields.ensures.kinds;
       selected = c.in_ok-selected.ensures;

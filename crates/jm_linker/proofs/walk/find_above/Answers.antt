@@ -4,7 +4,7 @@ use Rattle.std.proofs.lemmas.List.{nil_from_length}
 use Rattle.jm_linker.specs.Walks.{sought_in, above_from, found_pending}
 use Rattle.jm_linker.proofs.NumberedLaws.{of_its_number}
 use Rattle.jm_linker.proofs.WalkLaws.{only_pending, none_pending, too_deep, no_more, found_by_first_name, no_such, is_here, here_first}
-use Rattle.jm_linker.proofs.WalkLaws.{nothing_first, say_dropped, say_skipped, say_above, was_vain, begin_says, none_kept, deep_none, empty_none}
+use Rattle.jm_linker.proofs.WalkLaws.{nothing_first, say_dropped, say_skipped, say_above, takes, was_vain, begin_says, none_kept, deep_none, empty_none}
 use Rattle.jm_linker.proofs.walk.find_above.Goals as goal
 
 pub loop-init : goal.loop-init
@@ -50,10 +50,10 @@ loop-preserved-in_default-class_number c =
     let program = c.args.classes.now.program.now in
     let inv = c.loop.invariant in
     let none = no_such test program c.in-Some.next.depth c.in-Some-split_first.name.now c.in_default-class_number.ensures in
-    let first = found_by_first_name test program _ _ _ _ _ c.in-Some-split_first.name.now _
-    c.in-Some.ensures.items c.in-Some-split_first.ensures.cases.0 refl refl c.in_ok-push-2.ensures.items in (
+    let taken = takes _ _ c.in-Some.ensures.items c.in_ok-push-2.ensures.items c.in-Some-split_first.ensures.cases.0 refl refl in
+    let first = found_by_first_name test program taken in (
       nothing_first _ _ _ _ first none inv.0,
-      say_skipped test program _ _ _ _ _ c.in-Some-split_first.name.now _ c.in-Some.ensures.items c.in-Some-split_first.ensures.cases.0 refl refl refl c.in_ok-push-2.ensures.items none inv.1,
+      say_skipped test program taken none inv.1,
       inv.2,
     )
 
@@ -65,10 +65,10 @@ loop-preserved-then-is_tried c =
     let one : suc (c.in-Some.next.depth - 1) ≡ c.in-Some.next.depth = omega (arith, c.if-next-eq0.false) in
     let vain = c.is_tried.ensures test program inv.2 c.if-is_tried.true c.in-Some-split_first.name.now c.in-Some-class_number.ensures.named in
     let none = ap (λ n. above_from test n program c.in-Some-split_first.name.now) (sym one) ∙ vain in
-    let first = found_by_first_name test program _ _ _ _ _ c.in-Some-split_first.name.now _
-    c.in-Some.ensures.items c.in-Some-split_first.ensures.cases.0 refl refl c.in_ok-push-2.ensures.items in (
+    let taken = takes _ _ c.in-Some.ensures.items c.in_ok-push-2.ensures.items c.in-Some-split_first.ensures.cases.0 refl refl in
+    let first = found_by_first_name test program taken in (
       nothing_first _ _ _ _ first none inv.0,
-      say_skipped test program _ _ _ _ _ c.in-Some-split_first.name.now _ c.in-Some.ensures.items c.in-Some-split_first.ensures.cases.0 refl refl refl c.in_ok-push-2.ensures.items none inv.1,
+      say_skipped test program taken none inv.1,
       inv.2,
     )
 
@@ -78,8 +78,8 @@ returns-then-is_in c =
     let program = c.args.classes.now.program.now in
     let class = c.in-Some-members_numbered.members.now.class.now in
     let named = sym (of_its_number program c.in-Some-split_first.name.now c.in-Some-class_number.number c.in-Some-class_number.ensures) ∙ sym c.in-Some-members_numbered.ensures in
-    let first = found_by_first_name test program _ _ _ _ _ c.in-Some-split_first.name.now _
-    c.in-Some.ensures.items c.in-Some-split_first.ensures.cases.0 refl refl c.in_ok-push-2.ensures.items in
+    let taken = takes _ _ c.in-Some.ensures.items c.in_ok-push-2.ensures.items c.in-Some-split_first.ensures.cases.0 refl refl in
+    let first = found_by_first_name test program taken in
     let here = is_here test program c.in-Some.next.depth c.in-Some-split_first.name.now class c.if-next-eq0.false named (sym c.is_in.ensures ∙ c.if-is_in.true) in
     here_first _ _ _ _ class first here c.loop.invariant.0
 
@@ -90,5 +90,27 @@ loop-preserved c =
     let inv = c.loop.invariant in
     let class = c.in-Some-members_numbered.members.now.class.now in
     let named = sym (of_its_number program c.in-Some-split_first.name.now c.in-Some-class_number.number c.in-Some-class_number.ensures) ∙ sym c.in-Some-members_numbered.ensures in
-    let turn = say_above test program _ _ _ _ _ c.in-Some.next _ _ _ c.in-Some-split_first.name.now _ c.in-Some-class_number.number class c.in-Some.ensures.items c.in-Some-split_first.ensures.cases.0 refl refl refl c.in_ok-push-2.ensures.items c.superclass_of.ensures refl refl c.in_ok-push-3.ensures.items c.as_slice.ensures refl refl c.in_ok-push-4.ensures.items c.if-next-eq0.false c.in-Some-class_number.ensures.named named (sym c.is_in.ensures ∙ c.if-is_in.false) inv.1 in
+    let turn = say_above test program (record {
+      next = c.in-Some.next;
+      name = c.in-Some-split_first.name.now;
+      number = c.in-Some-class_number.number;
+      class = class;
+      between = _;
+      with_superclass = _;
+      superclass = _;
+      pushed = c.in_ok-push-3.ensures.items;
+      interfaces = _;
+      now = c.in_ok-push-4.ensures.items;
+      taken = takes _ _ c.in-Some.ensures.items c.in_ok-push-2.ensures.items c.in-Some-split_first.ensures.cases.0 refl refl;
+      goes_on = c.if-next-eq0.false;
+      numbered = c.in-Some-class_number.ensures.named;
+      named = named;
+      not_found = sym c.is_in.ensures ∙ c.if-is_in.false;
+      superclass_names = c.superclass_of.ensures;
+      superclass_depth = refl;
+      superclass_below = refl;
+      interfaces_names = c.as_slice.ensures;
+      interfaces_depth = refl;
+      interfaces_below = refl;
+    }) inv.1 in
     (sym turn.0 ∙ inv.0, turn.1, inv.2)

@@ -2,7 +2,7 @@
 use Rattle.std.proofs.Common.{sym, arith}
 use Rattle.jm_linked.specs.Links.{class_numbered}
 use Rattle.jm_linker.proofs.AboveLaws.{all_there, not_none, numbered_there}
-use Rattle.jm_linker.proofs.tables.heirs_of.Goals as goal
+use Rattle.jm_linker.proofs.tables.declarations_of.Goals as goal
 
 pub unreachable-requires : goal.unreachable-requires
 unreachable-requires c =
