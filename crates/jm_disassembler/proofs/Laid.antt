@@ -19,8 +19,8 @@ use Rattle.jm_jasmin_lex.specs.Grammar.Parted.{by_blank, by_line_end}
 use Rattle.jm_jasmin_lex.specs.Grammar.Lie.{nothing as no_sign, blank as blank_sign, line_end as line_end_sign, semicolon, in_comment as comment_sign, token}
 use Rattle.jm_jasmin_lex.specs.declared.token.TokenKind.{TokenKind}
 use Rattle.jm_jasmin_lex.specs.declared.token.TokenKind.TheVariants as kind
-use Rattle.jm_jasmin_lex.specs.declared.place.Sign.{Sign}
-use Rattle.jm_jasmin_lex.specs.declared.place.Sign.TheVariants.{Blank, Other}
+use Rattle.jm_jasmin_lex.specs.declared.lexer_state.Sign.{Sign}
+use Rattle.jm_jasmin_lex.specs.declared.lexer_state.Sign.TheVariants.{Blank, Other}
 use Rattle.jm_jasmin_lex.proofs.TokensLie.{lying_tokens}
 use Rattle.jm_jasmin.specs.WordForms.{Word, bare, quoted, Line, word_of, in_front, lines_said}
 

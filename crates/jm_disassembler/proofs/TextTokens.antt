@@ -14,12 +14,12 @@ use Rattle.jm_program.proofs.Truths.{all_pass}
 use Rattle.jm_jasmin_lex.specs.Token.{TokenParts, LexedParts}
 use Rattle.jm_jasmin_lex.specs.declared.token.TokenKind.{TokenKind}
 use Rattle.jm_jasmin_lex.specs.declared.token.TokenKind.TheVariants as kind
-use Rattle.jm_jasmin_lex.specs.declared.place.Sign.{Sign}
-use Rattle.jm_jasmin_lex.specs.declared.place.Sign.TheVariants.{Blank, LineEnd, Other}
-use Rattle.jm_jasmin_lex.specs.declared.place.Place.{Place}
-use Rattle.jm_jasmin_lex.specs.declared.place.Place.TheVariants.{Between, Comment, Word, Text, Escape, Digits, Closed}
-use Rattle.jm_jasmin_lex.specs.declared.place.Step.{Step}
-use Rattle.jm_jasmin_lex.specs.declared.place.Step.TheVariants.{To, Ends, Bad}
+use Rattle.jm_jasmin_lex.specs.declared.lexer_state.Sign.{Sign}
+use Rattle.jm_jasmin_lex.specs.declared.lexer_state.Sign.TheVariants.{Blank, LineEnd, Other}
+use Rattle.jm_jasmin_lex.specs.declared.lexer_state.LexerState.{LexerState}
+use Rattle.jm_jasmin_lex.specs.declared.lexer_state.LexerState.TheVariants.{Between, Comment, Word, Text, Escape, Digits, Closed}
+use Rattle.jm_jasmin_lex.specs.declared.lexer_state.Step.{Step}
+use Rattle.jm_jasmin_lex.specs.declared.lexer_state.Step.TheVariants.{To, Ends, Bad}
 use Rattle.jm_jasmin_lex.specs.Signs.{begins_with_line_feed, sign_of, signs, opened, in_text, in_escape, in_digits, step}
 use Rattle.jm_jasmin_lex.specs.Tokens.{token_at, then_lexed, next_line, lexed_from, lexed_of}
 use Rattle.jm_jasmin_lex.proofs.SignsOfText.{sign_next, sign_end}

@@ -10,7 +10,7 @@ use Rattle.jm_jasmin_lex.specs.Signs.{signs}
 use Rattle.jm_jasmin_lex.specs.Tokens.{lexed_of, tokens_of}
 use Rattle.jm_jasmin_lex.specs.Grammar.{Lie}
 use Rattle.jm_jasmin_lex.specs.Grammar.Lie.{nothing as no_sign, blank, line_end, semicolon, in_comment, token}
-use Rattle.jm_jasmin_lex.specs.declared.place.Sign.{Sign}
+use Rattle.jm_jasmin_lex.specs.declared.lexer_state.Sign.{Sign}
 use Rattle.jm_jasmin_lex.proofs.TokensLie.{tokens_lie, all_read}
 use Rattle.jm_jasmin_ops.specs.declared.fault.AsmFault.{AsmFault}
 use Rattle.jm_jasmin.specs.Text.{end_of_text, with_end, class_of, read_lexed, denoted}
