@@ -1,7 +1,7 @@
 // The sources of a program's classes, below a folder.
 
 use jm_execute::{InputFile, Utf8, class_of};
-use jm_listing::Source;
+use jm_page::Source;
 use jm_program::{Class, Name};
 use std::alloc::{AllocError, Global};
 use std::fs;
