@@ -21,7 +21,7 @@ use Rattle.jm_execute.specs.declared.pass.Turn as pass
 use Rattle.jm_execute.specs.declared.round_robin.Standing.{Standing}
 use Rattle.jm_debug.proofs.KeptThreads.{stepped, told}
 use Rattle.jm_execute.proofs.PassLemmas.{first_lives}
-use Rattle.jm_due.proofs.Rounds.{left_standing}
+use Rattle.jm_events.proofs.Rounds.{left_standing}
 
 -- ---- whose turn it is
 

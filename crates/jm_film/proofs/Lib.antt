@@ -6,5 +6,6 @@ pub mod EventsTold
 pub mod Films
 pub mod Passing
 pub mod Telling
+pub mod Answered
 pub mod Fronts
 pub mod Harmless

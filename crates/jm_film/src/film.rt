@@ -18,7 +18,7 @@ use crate::front::put_front;
 use crate::shots::show;
 use crate::skipping::{Skipped, skip};
 use crate::window::Window;
-use jm_due::EventsDue;
+use jm_events::EventsDue;
 use jm_heap::Heap;
 use jm_machine::Machine;
 use jm_page::{PageFault, PageWriter, Source, put_piece};
@@ -55,9 +55,10 @@ fn put_shots<H: Heap, S: EventsDue, P: PageWriter>(
     page: &mut P,
 ) -> Result<(), PageFault>
     requires { piece.old.items ≡ [] }
-    ensures told { (w : World) → MatchesWorld machine.old w
+    ensures told { (w : World) → MatchesWorld machine.old w → S.knows events.old w
         → Puts P.wrote P.broke result page.old (shots_from w window.from window.steps (S.due events.old w) ++ BELOW.now) page.new }
-    ensures made { (w : World) → MatchesWorld machine.old w → OnOk result (MatchesWorld machine.new (run_from w (film_events window (S.due events.old w)))) }
+    ensures made { (w : World) → MatchesWorld machine.old w → S.knows events.old w
+        → OnOk result (MatchesWorld machine.new (run_from w (film_events window (S.due events.old w)))) }
 {
     let skipped = skip(alloc, machine, events, window.from)?;
     let mut filming = put_view(alloc, machine, skipped, piece, page)?;
@@ -84,9 +85,10 @@ pub fn write_film<H: Heap, S: EventsDue, P: PageWriter>(
     sources: &[Source],
     page: &mut P,
 ) -> Result<(), PageFault>
-    ensures written { (w : World) → MatchesWorld machine.old w
+    ensures written { (w : World) → MatchesWorld machine.old w → S.knows events.old w
         → Puts P.wrote P.broke result page.old (film_page w (S.due events.old w) window sources.now) page.new }
-    ensures made { (w : World) → MatchesWorld machine.old w → OnOk result (MatchesWorld machine.new (run_from w (film_events window (S.due events.old w)))) }
+    ensures made { (w : World) → MatchesWorld machine.old w → S.knows events.old w
+        → OnOk result (MatchesWorld machine.new (run_from w (film_events window (S.due events.old w)))) }
 {
     let mut piece = Vec::new(alloc);
     put_front(alloc, machine.program(), sources, &mut piece, page)?;

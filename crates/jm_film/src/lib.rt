@@ -6,12 +6,12 @@
 //! thread that is blocked is what keeps it back in the model (`jm_blocked_threads`). A [`Filming`] makes
 //! events of a machine and writes each, as `jm_page` writes it; the data are the fold over the run's events.
 //!
-//! [`write_film`] makes the events that are due (`jm_due`) from a machine's world on and writes the page of those in a
+//! [`write_film`] makes the events that are due (`jm_events`) from a machine's world on and writes the page of those in a
 //! [`Window`] into a writer (`jm_page`): the template, the rows that stand still, the whole view behind the events that
 //! are not shown, an event after the other, and whether the run is over or goes on. It keeps two views and the data of
 //! one event, however long the page is. No `<` stands in the data.
 //!
-//! The crate stands on `jm_machine`, `jm_debug`, `jm_page`, `jm_blocked_threads` and `jm_due`.
+//! The crate stands on `jm_machine`, `jm_debug`, `jm_page`, `jm_blocked_threads` and `jm_events`.
 #![tactic(auto)]
 
 mod film;

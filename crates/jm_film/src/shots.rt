@@ -14,7 +14,7 @@ ghost use Rattle.jm_film.specs.Shots.{end_row, shots};
 
 use crate::filming::Filming;
 use jm_blocked_threads::is_blocked;
-use jm_due::EventsDue;
+use jm_events::EventsDue;
 use jm_heap::Heap;
 use jm_machine::Machine;
 use jm_page::{BELOW, PageFault, PageWriter, Row, put_piece, write_row};
@@ -61,12 +61,13 @@ fn put_last<H: Heap, S: EventsDue, P: PageWriter>(
     page: &mut P,
 ) -> Result<(), PageFault>
     requires { piece.old.items ≡ [] }
-    ensures { (w : World) → MatchesWorld machine.now w → Puts P.wrote P.broke result page.old (end_row (S.due events.old w) ++ BELOW.now) page.new }
+    ensures { (w : World) → MatchesWorld machine.now w → S.knows events.old w
+        → Puts P.wrote P.broke result page.old (end_row (S.due events.old w) ++ BELOW.now) page.new }
 {
-    match events.next(machine) {
-        Some(_) => put_end(b"cut", piece, page),
-        None => put_end(b"end", piece, page),
-    }
+    let Some(_due) = events.next(machine)? else {
+        return put_end(b"end", piece, page);
+    };
+    put_end(b"cut", piece, page)
 }
 
 /// Makes at most so many of the events that are due, writes each, and ends the page, which says whether the run goes
@@ -81,15 +82,16 @@ pub fn show<H: Heap, S: EventsDue, P: PageWriter>(
     page: &mut P,
 ) -> Result<(), PageFault>
     requires { piece.old.items ≡ [] }
-    ensures told { (w : World) → MatchesWorld machine.old w
+    ensures told { (w : World) → MatchesWorld machine.old w → S.knows events.old w
         → Puts P.wrote P.broke result page.old (shots steps w filming.old (S.due events.old w) ++ BELOW.now) page.new }
-    ensures made { (w : World) → MatchesWorld machine.old w → OnOk result (MatchesWorld machine.new (run_from w (take steps (S.due events.old w)))) }
+    ensures made { (w : World) → MatchesWorld machine.old w → S.knows events.old w
+        → OnOk result (MatchesWorld machine.new (run_from w (take steps (S.due events.old w)))) }
 {
     for shot in 0..steps {
-        let Some(event) = events.next(machine) else {
+        let Some(due) = events.next(machine)? else {
             return put_end(b"end", piece, page);
         };
-        shoot(alloc, machine, events, event, filming, piece, page)?;
+        shoot(alloc, machine, events, due.event, filming, piece, page)?;
     }
     put_last(machine, events, piece, page)
 }

@@ -9,7 +9,7 @@ ghost use Rattle.jm_film.specs.Runs.{waits_behind};
 ghost use Rattle.jm_film.specs.Shots.{Reached};
 
 use jm_blocked_threads::{is_blocked, waiting_after};
-use jm_due::EventsDue;
+use jm_events::EventsDue;
 use jm_heap::Heap;
 use jm_machine::Machine;
 use jm_world::Event;
@@ -50,15 +50,15 @@ pub fn skip<H: Heap, S: EventsDue>(
     events: &mut S,
     from: u32,
 ) -> Result<Skipped, AllocError>
-    ensures { (w : World) → MatchesWorld machine.old w → IfOk result (λ skipped. (now : World) × MatchesWorld machine.new now
-        × Reached w (S.due events.old w) from now (S.due events.new now) skipped.count skipped.waiting.items) }
+    ensures { (w : World) → MatchesWorld machine.old w → S.knows events.old w → IfOk result (λ skipped. (now : World) × MatchesWorld machine.new now
+        × S.knows events.new now × Reached w (S.due events.old w) from now (S.due events.new now) skipped.count skipped.waiting.items) }
 {
     let mut waiting = Vec::new(alloc);
     for count in 0..from {
-        let Some(event) = events.next(machine) else {
+        let Some(due) = events.next(machine)? else {
             return Ok(Skipped { count, waiting });
         };
-        waiting = pass_over(alloc, machine, events, event, &waiting)?;
+        waiting = pass_over(alloc, machine, events, due.event, &waiting)?;
     }
     Ok(Skipped {
         count: from,

@@ -12,7 +12,7 @@ pub returns-in_err-put_front-clause-written : goal.returns-in_err-put_front-clau
 unfolding film_page
 returns-in_err-put_front-clause-written g c =
     let p = err_from_is_err_and c.from_residual.result c.from_residual.ensures.1 in
-    rw (p.1, p.2) (λ w m.
+    rw (p.1, p.2) (λ w m k.
     let still = λ (program : List ClassParts). ABOVE.now ++ still_rows program c.args.sources.now in
     let below = shots_from w c.args.window.from c.args.window.steps (g.S.EventsDue.due c.args.events.now w) ++ BELOW.now in
     put_fault_first g.P.PageWriter.wrote g.P.PageWriter.broke (Unit {0}) (Unit {0}) _ _ _ (still c.program.result.now) below _
@@ -20,6 +20,6 @@ returns-in_err-put_front-clause-written g c =
 
 pub returns-clause-written : goal.returns-clause-written
 unfolding film_page
-returns-clause-written g c = λ w m.
+returns-clause-written g c = λ w m k.
     let front = put_same g.P.PageWriter.wrote g.P.PageWriter.broke _ _ _ _ (ap (λ program. ABOVE.now ++ still_rows program c.args.sources.now) (c.program.ensures w m)) c.in_ok-put_front.ensures.put in
-    put_last _ _ g.met.P.PageWriter.wrote_more g.met.P.PageWriter.broke_behind c.put_shots.result _ _ _ _ _ _ refl front (c.put_shots.ensures.told w m)
+    put_last _ _ g.met.P.PageWriter.wrote_more g.met.P.PageWriter.broke_behind c.put_shots.result _ _ _ _ _ _ refl front (c.put_shots.ensures.told w m k)

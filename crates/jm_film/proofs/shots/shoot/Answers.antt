@@ -5,7 +5,7 @@ use Rattle.jm_page.proofs.Pieces.{put_nothing}
 use Rattle.jm_world.specs.RoundRobin.{is_blocked}
 use Rattle.jm_film.proofs.Fronts.{put_of}
 use Rattle.jm_film.proofs.shots.shoot.Goals as goal
-use Rattle.jm_due.proofs.Answered.{of_answer}
+use Rattle.jm_film.proofs.Answered.{of_answer}
 
 pub returns-clause-told : goal.returns-clause-told
 returns-clause-told g c = λ w m. put_of _ _ c.put_piece.result _ _ _ _ _ (c.in_ok-reply.ensures.written w m) c.requires c.put_piece.ensures.put

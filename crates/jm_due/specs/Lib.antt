@@ -1,2 +1,0 @@
--- The events that are due behind some of them.
-pub mod Due
