@@ -6,7 +6,7 @@ ghost use Rattle.jm_command.specs.Named.{AreNamed, name_of};
 use crate::sources::sources_of;
 use jm_command::{FilesRead, file_named, folder_named, program_named};
 use jm_execute::{Contents, InputFile};
-use jm_listing::Source;
+use jm_page::Source;
 use jm_options::Options;
 use std::alloc::AllocError;
 use std::fs;

@@ -2,7 +2,7 @@
 
 use crate::utf8::Utf8;
 use jm_execute::{InputFile, class_of};
-use jm_listing::Source;
+use jm_page::Source;
 use jm_program::{Class, Name};
 use std::alloc::{AllocError, Global};
 use std::fs;

@@ -1,7 +1,7 @@
 // The files of a command line.
 
 use jm_job::InputFile;
-use jm_listing::Source;
+use jm_page::Source;
 
 /// What was read for a command line.
 #[derive(Drop)]

@@ -5,7 +5,7 @@ ghost use Rattle.jm_command.specs.Commands.{AreToldEvents, IsFilmJob, IsToldJob,
 
 use crate::copiers::copiers;
 use crate::files_read::FilesRead;
-use jm_film_run::Window;
+use jm_film::Window;
 use jm_job::{FilmJob, InputFile, ToldEvents, ToldJob, TraceJob};
 use jm_options::{FilmOptions, MAX_STEPS, SerialRun, TraceOptions};
 use jm_schedule::round_robin;

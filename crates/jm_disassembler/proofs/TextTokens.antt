@@ -129,7 +129,7 @@ pub record WordSoFar (text : List ℕ) (start at : ℕ) : Type 0 where
   units : list_all is_word_unit bytes ≡ true
   begins : begins_word bytes ≡ true
 
-abbrev SoFar : List ℕ → ℕ → Place → Type 0
+abbrev SoFar : List ℕ → ℕ → LexerState → Type 0
 SoFar text at (Word start) = WordSoFar text start at
 SoFar text at _ = Unit {0}
 
@@ -157,7 +157,7 @@ more_bytes text start at b byte w = record {
 
 -- ---- strings, in which no word is begun
 
-abbrev IsNoWord : Place → Type 0
+abbrev IsNoWord : LexerState → Type 0
 IsNoWord p = (text : List ℕ) (at : ℕ) → SoFar text at p
 
 abbrev LeadsToNone : Step → Type 0
@@ -165,7 +165,7 @@ LeadsToNone (To p) = IsNoWord p
 LeadsToNone (Ends kind start) = ⊥
 LeadsToNone Bad = Unit {0}
 
-no_word_by : (b : Bool) (p q : Place) → IsNoWord p → IsNoWord q → IsNoWord (if b then p else q)
+no_word_by : (b : Bool) (p q : LexerState) → IsNoWord p → IsNoWord q → IsNoWord (if b then p else q)
 no_word_by true p q h k = h
 no_word_by false p q h k = k
 
@@ -224,7 +224,7 @@ word_ends text start at line utf8 ended w = λ word.
 no_word : (text : List ℕ) (start at line : ℕ) → IsFine (token_at text kind.Text start at line)
 no_word text start at line = λ word. absurd cc
 
-goes_on : (text : List ℕ) (at line : ℕ) (place : Place) (s : Sign) (ss : List Sign) → IsUtf8 text → drop at (signs text) ≡ s ∷ ss → StandsAfter text at (step at place s) → SoFar text at place
+goes_on : (text : List ℕ) (at line : ℕ) (place : LexerState) (s : Sign) (ss : List Sign) → IsUtf8 text → drop at (signs text) ≡ s ∷ ss → StandsAfter text at (step at place s) → SoFar text at place
     → GoesOn text at line (step at place s)
 unfolding step
 goes_on text at line Between (Other b) ss utf8 is stands so = opened_so text at b (byte_at text at b ss is)
@@ -251,17 +251,17 @@ goes_on text at line (Closed start) LineEnd ss utf8 is stands so = no_word text 
 
 -- ---- all tokens
 
-read_to : (text : List ℕ) (place next : Place) (at line : ℕ) (s : Sign) (ss : List Sign) → step at place s ≡ To next
+read_to : (text : List ℕ) (place next : LexerState) (at line : ℕ) (s : Sign) (ss : List Sign) → step at place s ≡ To next
     → lexed_from text place at line (s ∷ ss) ≡ lexed_from text next (at + 1) (next_line s line) ss
 unfolding lexed_from
 read_to text place next at line s ss e = rw (e, lexed_from) refl
 
-read_end : (text : List ℕ) (place : Place) (kind : TokenKind) (start at line : ℕ) (s : Sign) (ss : List Sign) → step at place s ≡ Ends kind start
+read_end : (text : List ℕ) (place : LexerState) (kind : TokenKind) (start at line : ℕ) (s : Sign) (ss : List Sign) → step at place s ≡ Ends kind start
     → lexed_from text place at line (s ∷ ss) ≡ then_lexed (token_at text kind start at line) (lexed_from text Between (at + 1) (next_line s line) ss)
 unfolding lexed_from
 read_end text place kind start at line s ss e = rw (e, lexed_from) refl
 
-read_bad : (text : List ℕ) (place : Place) (at line : ℕ) (s : Sign) (ss : List Sign) → step at place s ≡ Bad
+read_bad : (text : List ℕ) (place : LexerState) (at line : ℕ) (s : Sign) (ss : List Sign) → step at place s ≡ Bad
     → lexed_from text place at line (s ∷ ss) ≡ record { tokens = []; bad_line = Some line }
 unfolding lexed_from
 read_bad text place at line s ss e = rw (e, lexed_from) refl
@@ -269,15 +269,15 @@ read_bad text place at line s ss e = rw (e, lexed_from) refl
 abbrev FineTokens : LexedParts → Type 0
 FineTokens l = AllFine l.tokens
 
-fine_by : (text : List ℕ) (place : Place) (at line : ℕ) (s : Sign) (ss : List Sign) (r : Step) → step at place s ≡ r → StandsAfter text at r → GoesOn text at line r
-    → ((next : Place) → Stands text (at + 1) next → SoFar text (at + 1) next → FineTokens (lexed_from text next (at + 1) (next_line s line) ss))
+fine_by : (text : List ℕ) (place : LexerState) (at line : ℕ) (s : Sign) (ss : List Sign) (r : Step) → step at place s ≡ r → StandsAfter text at r → GoesOn text at line r
+    → ((next : LexerState) → Stands text (at + 1) next → SoFar text (at + 1) next → FineTokens (lexed_from text next (at + 1) (next_line s line) ss))
     → FineTokens (lexed_from text place at line (s ∷ ss))
 fine_by text place at line s ss (To next) e stands goes rest = subst FineTokens (sym (read_to text place next at line s ss e)) (rest next stands goes)
 fine_by text place at line s ss (Ends kind start) e stands goes rest =
     subst FineTokens (sym (read_end text place kind start at line s ss e)) (goes, rest Between stands.behind tt)
 fine_by text place at line s ss Bad e stands goes rest = subst FineTokens (sym (read_bad text place at line s ss e)) tt
 
-fine_from : (text : List ℕ) → IsUtf8 text → (ss : List Sign) (place : Place) (at line : ℕ) → drop at (signs text) ≡ ss → Stands text at place → SoFar text at place
+fine_from : (text : List ℕ) → IsUtf8 text → (ss : List Sign) (place : LexerState) (at line : ℕ) → drop at (signs text) ≡ ss → Stands text at place → SoFar text at place
     → FineTokens (lexed_from text place at line ss)
 unfolding lexed_from
 fine_from text utf8 [] place at line is stands so = tt

@@ -1,8 +1,8 @@
 -- Runs of which a text is told on standard output: which run the files of a job say, how its telling ends, and what is left behind.
 use Rattle.std.specs.Prelude.{◌≡◌, ◌⊎◌, ℕ, List, [], Option, Some, None, Result, Ok, Err, Bool, true, false}
-use Rattle.jm_film_run.specs.FilmPages.{film_events, film_page}
-use Rattle.jm_film_run.specs.declared.window.Window.{Window}
-use Rattle.jm_listing.specs.declared.source.Source.{Source}
+use Rattle.jm_film.specs.FilmPages.{film_events, film_page}
+use Rattle.jm_film.specs.declared.window.Window.{Window}
+use Rattle.jm_page.specs.declared.source.Source.{Source}
 use Rattle.jm_page.specs.Writing.{Begins}
 use Rattle.jm_page.specs.declared.writer.PageFault.{PageFault}
 use Rattle.jm_page.specs.declared.writer.PageFault.TheVariants as page

@@ -1,7 +1,7 @@
 // What is told of a run while its events are made.
 
 ghost use Rattle.std.specs.Prelude.{OnOk};
-ghost use Rattle.jm_film_run.specs.FilmPages.{film_page};
+ghost use Rattle.jm_film.specs.FilmPages.{film_page};
 ghost use Rattle.jm_machine.specs.View.{MatchesWorld};
 ghost use Rattle.jm_page.specs.Writing.{Puts};
 ghost use Rattle.jm_world.specs.Run.{run_from};
@@ -9,11 +9,10 @@ ghost use Rattle.jm_world.specs.World.{World};
 ghost use Rattle.jm_execute.specs.Tellings.{Telling, film_telling, trace_telling, why_telling};
 
 use jm_events::EventsDue;
-use jm_film_run::{Window, write_film};
+use jm_film::{Window, write_film};
 use jm_heap::Heap;
-use jm_listing::Source;
 use jm_machine::Machine;
-use jm_page::{PageFault, PageWriter};
+use jm_page::{PageFault, PageWriter, Source};
 use jm_trace::{Shown, write_trace};
 use jm_why::write_why;
 use std::alloc::Global;

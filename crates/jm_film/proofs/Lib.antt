@@ -1,7 +1,11 @@
-pub mod Finding
-pub mod Kept
-pub mod Applying
+pub mod PlacesWritten
+pub mod Left
+pub mod ObjectsPut
+pub mod ViewPut
+pub mod EventsTold
+pub mod Films
+pub mod Passing
+pub mod Telling
+pub mod Answered
+pub mod Fronts
 pub mod Harmless
-pub mod Unique
-pub mod OneRun
-pub mod WorkedFilm

@@ -1,6 +1,6 @@
--- In reading order: bytes as they stand in the data, what leads from one view to the next, the lines of the data, and a
--- film that is being written.
-pub mod Escapes
-pub mod Sections
-pub mod Data
-pub mod Filming
+-- In reading order: what is shown of a world, the events of a run as a film tells them, which of them are shown, and the
+-- page of a film.
+pub mod Shown
+pub mod Runs
+pub mod Shots
+pub mod FilmPages

@@ -1,77 +1,96 @@
-// A film that is being written.
+// The page of a film, from a machine's world on.
 
-ghost use Rattle.std.specs.Prelude.{◌≡◌, ◌++◌, IfOk, OnErr, OnOk, drop, length};
-ghost use Rattle.jm_film.specs.Data.{view_text};
-ghost use Rattle.jm_film.specs.Filming.{FilmView, told};
+ghost use Rattle.std.specs.Prelude.{◌≡◌, ◌++◌, [], IfOk, OnOk};
+ghost use Rattle.std.specs.Fmt.{decimal};
+ghost use Rattle.jm_world.specs.Run.{run_from};
+ghost use Rattle.jm_world.specs.World.{World};
+ghost use Rattle.jm_machine.specs.View.{MatchesWorld};
+ghost use Rattle.jm_page.specs.Data.{view_text};
+ghost use Rattle.jm_film.specs.Shown.{view};
+ghost use Rattle.jm_film.specs.Runs.{begun};
+ghost use Rattle.jm_page.specs.Writing.{Puts};
+ghost use Rattle.jm_page.specs.declared.page.TheConstants.{BELOW};
+ghost use Rattle.jm_film.specs.Shots.{shots_from};
+ghost use Rattle.jm_film.specs.FilmPages.{film_events, film_page};
 
-use crate::event::{write_event, write_view};
-use crate::section::Section;
-use std::alloc::AllocError;
-use std::marker::Model;
+use crate::filming::Filming;
+use crate::front::put_front;
+use crate::shots::show;
+use crate::skipping::{Skipped, skip};
+use crate::window::Window;
+use jm_events::EventsDue;
+use jm_heap::Heap;
+use jm_machine::Machine;
+use jm_page::{PageFault, PageWriter, Source, put_piece};
+use std::alloc::Global;
 
-/// A film that is being written: the view behind the last event, and how much of the output was told.
-#[derive(Drop)]
-pub struct Film {
-    view: Vec<Section>,
-    printed: usize,
-}
-
-impl Model for Film {
-    ghost use Rattle.jm_film.specs.Filming.{FilmView};
-
-    ghost Value = { FilmView };
-
-    ghost view = { λ f. record { view = f.view.items; printed = f.printed } };
-}
-
-// What of the output was not told yet.
-#[tactic(auto, using(std::proofs::lemmas::List::drop_all))]
-fn added(output: &[u8], printed: usize) -> &[u8]
-    ensures { result.now ≡ drop printed output.now }
+// Writes the whole view behind the events that are not shown.
+fn put_view<H: Heap, P: PageWriter>(
+    alloc: Global,
+    machine: &Machine<H>,
+    skipped: Skipped,
+    piece: &mut Vec<u8>,
+    page: &mut P,
+) -> Result<Filming, PageFault>
+    requires { piece.old.items ≡ [] }
+    ensures put { (w : World) → MatchesWorld machine.now w
+        → Puts P.wrote P.broke result page.old (view_text (decimal skipped.count) (view w skipped.waiting.items)) page.new }
+    ensures begun { (w : World) → MatchesWorld machine.now w → IfOk result (λ filming. filming ≡ begun w skipped.waiting.items) }
+    ensures empty { OnOk result (piece.new.items ≡ []) }
 {
-    if printed < output.len() {
-        &output[printed..]
-    } else {
-        &[]
-    }
+    let count = skipped.count;
+    let number = format!(in alloc; "{count}")?;
+    let filming = Filming::begin(alloc, piece, machine, number.as_str(), skipped.waiting)?;
+    put_piece(page, piece)?;
+    Ok(filming)
 }
 
-impl Film {
-    /// Begins a film with the whole view behind the event of a number, where the program has printed
-    /// such an output. `AllocError`: a growth was refused; a part of it may be written then.
-    pub fn begin(
-        out: &mut Vec<u8>,
-        number: &str,
-        output: &[u8],
-        view: Vec<Section>,
-    ) -> Result<Film, AllocError>
-        ensures written { OnOk result (out.new.items ≡ out.old.items ++ view_text number.now view.items) }
-        ensures film { IfOk result (λ f. f ≡ record { view = view.items; printed = length output.now }) }
-    {
-        write_view(out, number, &view)?;
-        let printed = output.len();
-        Ok(Film { view, printed })
-    }
+// Writes the whole view behind the events that are not shown, and then those that are.
+fn put_shots<H: Heap, S: EventsDue, P: PageWriter>(
+    alloc: Global,
+    machine: &mut Machine<H>,
+    events: &mut S,
+    window: Window,
+    piece: &mut Vec<u8>,
+    page: &mut P,
+) -> Result<(), PageFault>
+    requires { piece.old.items ≡ [] }
+    ensures told { (w : World) → MatchesWorld machine.old w → S.knows events.old w
+        → Puts P.wrote P.broke result page.old (shots_from w window.from window.steps (S.due events.old w) ++ BELOW.now) page.new }
+    ensures made { (w : World) → MatchesWorld machine.old w → S.knows events.old w
+        → OnOk result (MatchesWorld machine.new (run_from w (film_events window (S.due events.old w)))) }
+{
+    let skipped = skip(alloc, machine, events, window.from)?;
+    let mut filming = put_view(alloc, machine, skipped, piece, page)?;
+    show(
+        alloc,
+        machine,
+        events,
+        window.steps,
+        &mut filming,
+        piece,
+        page,
+    )
+}
 
-    /// Writes an event, as [`write_event`] does: who made it, the kind of its reply, what it added to
-    /// the output, and what leads from the view before it to the one behind it. `AllocError`: a growth
-    /// was refused; the film is as it was, and a part of the event may be written.
-    pub fn event(
-        &mut self,
-        out: &mut Vec<u8>,
-        who: &str,
-        kind: &str,
-        output: &[u8],
-        view: Vec<Section>,
-    ) -> Result<(), AllocError>
-        ensures written { OnOk result (out.new.items ≡ out.old.items ++ told self.old who.now kind.now output.now view.items) }
-        ensures film { OnOk result (self.new ≡ record { view = view.items; printed = length output.now }) }
-        ensures refused { OnErr result (self.new ≡ self.old) }
-    {
-        let told = added(output, self.printed);
-        write_event(out, who, kind, told, &self.view, &view)?;
-        self.view = view;
-        self.printed = output.len();
-        Ok(())
-    }
+/// Writes the page of a run, as it goes: makes the events that are due from a machine's world on, first those that are
+/// not shown and then those that are, and says on the page whether the run goes on behind them. `OutOfMemory`: a growth
+/// was refused; a beginning of the page is written then. `WriteFailed`: a write failed; of what is written a beginning
+/// of the page is known. Memory: two views and the data of one event, beside the machine.
+pub fn write_film<H: Heap, S: EventsDue, P: PageWriter>(
+    alloc: Global,
+    machine: &mut Machine<H>,
+    events: &mut S,
+    window: Window,
+    sources: &[Source],
+    page: &mut P,
+) -> Result<(), PageFault>
+    ensures written { (w : World) → MatchesWorld machine.old w → S.knows events.old w
+        → Puts P.wrote P.broke result page.old (film_page w (S.due events.old w) window sources.now) page.new }
+    ensures made { (w : World) → MatchesWorld machine.old w → S.knows events.old w
+        → OnOk result (MatchesWorld machine.new (run_from w (film_events window (S.due events.old w)))) }
+{
+    let mut piece = Vec::new(alloc);
+    put_front(alloc, machine.program(), sources, &mut piece, page)?;
+    put_shots(alloc, machine, events, window, &mut piece, page)
 }

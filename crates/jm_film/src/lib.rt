@@ -1,28 +1,36 @@
-//! The data of a film: a run as a page to look at, event by event.
+//! A film of a machine: its views, and its page, written as the events are made.
 //!
-//! A view is a list of [`Section`]s, each a key and the lines that the debugger shows. What leads from
-//! one view to the next are the sections that changed and the keys that are gone ([`write_change`]):
-//! made to the view before, they give the view behind it. An event is who made it, its reply, the
-//! output that it added and that change ([`write_event`]); the first view is whole ([`write_view`]);
-//! and beside them stand the program's title, methods and sources, a row each ([`write_row`]). No `<`
-//! stands in what is written, so nothing that a program prints or names can end the page's script.
-//! A [`Film`] keeps the view behind the last event, and so writes a run as it goes.
+//! What is shown of a world is a definition over the debugger's lines (`specs/Shown`): sections with a
+//! key each, frames numbered from the bottom, so that a call touches its own frames alone. [`view`] takes
+//! them from a machine: what it gives is that of every world that the machine matches. What is told of a
+//! thread that is blocked is what keeps it back in the model (`jm_blocked_threads`). A [`Filming`] makes
+//! events of a machine and writes each, as `jm_page` writes it; the data are the fold over the run's events.
 //!
-//! The crate stands on the standard library alone.
+//! [`write_film`] makes the events that are due (`jm_events`) from a machine's world on and writes the page of those in a
+//! [`Window`] into a writer (`jm_page`): the template, the rows that stand still, the whole view behind the events that
+//! are not shown, an event after the other, and whether the run is over or goes on. It keeps two views and the data of
+//! one event, however long the page is. No `<` stands in the data.
+//!
+//! The crate stands on `jm_machine`, `jm_debug`, `jm_page`, `jm_blocked_threads` and `jm_events`.
 #![tactic(auto)]
 
-mod change;
-mod escape;
-mod event;
 mod film;
+mod filming;
+mod frames;
+mod front;
 mod laws;
-mod row;
+mod objects;
 mod section;
+mod shots;
+mod shown;
+mod skipping;
+mod statics;
+mod threads;
+mod waits;
+mod window;
 
-pub use change::write_change;
-pub use escape::write_escaped;
-pub use event::{write_event, write_view};
-pub use film::Film;
-pub use laws::{changes_lead_on, data_tell_one_run, readers_see_each_view, runs_are_harmless};
-pub use row::{Row, write_row};
-pub use section::{Section, shown_at};
+pub use film::write_film;
+pub use filming::Filming;
+pub use laws::data_are_harmless;
+pub use shown::view;
+pub use window::Window;

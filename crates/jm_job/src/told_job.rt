@@ -1,8 +1,8 @@
 // Runs by one worker, of which a text is told.
 
 use crate::job::{Copiers, InputFile};
-use jm_film_run::Window;
-use jm_listing::Source;
+use jm_film::Window;
+use jm_page::Source;
 use jm_schedule::RoundRobin;
 use jm_trace::Shown;
 

@@ -3,6 +3,8 @@
 ghost use Rattle.std.specs.Prelude.{◌≡◌, ◌++◌, ℕ, List, [], MatchResult, OnOk};
 ghost use Rattle.jm_page.specs.Writing.{Puts};
 
+use std::alloc::AllocError;
+
 /// Why a page was not written whole.
 #[derive(Clone, Copy)]
 pub enum PageFault {
@@ -10,6 +12,16 @@ pub enum PageFault {
     OutOfMemory,
     /// A write failed.
     WriteFailed,
+}
+
+impl From<AllocError> for PageFault {
+    ghost use Rattle.jm_page.specs.declared.writer.PageFault.TheVariants.{OutOfMemory};
+
+    ghost from_gives = { λ _ fault. fault ≡ OutOfMemory };
+
+    fn from(_error: AllocError) -> PageFault {
+        PageFault::OutOfMemory
+    }
 }
 
 /// A write of a piece of a page failed.

@@ -7,8 +7,8 @@ use Rattle.jm_world.specs.Frames.{Frame, method_frame, initialization_frame, ent
 use Rattle.jm_world.specs.Classes.{method_named}
 use Rattle.jm_world.specs.Stepping.{instruction_in}
 use Rattle.jm_world.specs.World.{World, Thread}
-use Rattle.jm_waits.specs.Asked.{Need, entering, initializing, asked_by_instruction, asked_by_top}
-use Rattle.jm_waits.specs.Waits.{Stands, Waits, told_of}
+use Rattle.jm_blocked_threads.specs.Asked.{Need, entering, initializing, asked_by_instruction, asked_by_top}
+use Rattle.jm_blocked_threads.specs.Waits.{Stands, Waits, told_of}
 use Rattle.jm_why.specs.Waits.{WaitsTold, awaited_text, need_told, object_text, owner_text, told_at, top_waits}
 
 object_told : (w : World) (n : ℕ) (o : Option ℕ) (need : Need) (stands : Stands w n need) → option_map entering o ≡ Some need → object_text w o ≡ need_told w n need stands

@@ -14,7 +14,7 @@ use Rattle.jm_world.specs.declared.reply.ReplyKind.{ReplyKind}
 use Rattle.jm_machine.specs.Readers.{pending_of}
 use Rattle.jm_trace.specs.Doings.{standing_text, texts_from}
 use Rattle.jm_trace.specs.EventLines.{thrown_text}
-use Rattle.jm_waits.specs.Blocked.{waiting_after}
+use Rattle.jm_blocked_threads.specs.Blocked.{waiting_after}
 use Rattle.jm_why.specs.declared.kept.Stopped.{Stopped}
 
 -- ---- the frames of a thread

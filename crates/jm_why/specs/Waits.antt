@@ -9,9 +9,9 @@ use Rattle.jm_world.specs.Monitors.{monitor_in}
 use Rattle.jm_world.specs.Stepping.{instruction_in}
 use Rattle.jm_world.specs.World.{World, Thread, Monitor, thread_at}
 use Rattle.jm_machine.specs.Readers.{frame_at}
-use Rattle.jm_waits.specs.Asked.{Need, entering, initializing, asked_by_instruction}
-use Rattle.jm_waits.specs.Blocked.{is_waiting}
-use Rattle.jm_waits.specs.Waits.{Stands}
+use Rattle.jm_blocked_threads.specs.Asked.{Need, entering, initializing, asked_by_instruction}
+use Rattle.jm_blocked_threads.specs.Blocked.{is_waiting}
+use Rattle.jm_blocked_threads.specs.Waits.{Stands}
 
 -- ---- what it holds
 

@@ -16,7 +16,7 @@ use jm_needs::{local_of, write_needs};
 use jm_program::{Code, Instr, Method};
 use jm_trace::write_operands;
 use jm_values::TagFault;
-use jm_waits::instruction_of;
+use jm_blocked_threads::instruction_of;
 use std::alloc::AllocError;
 use std::fmt::Write;
 

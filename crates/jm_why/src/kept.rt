@@ -10,7 +10,7 @@ ghost use Rattle.jm_why.specs.Kept.{kept_behind, nothing_kept, pending_before, s
 use crate::throws::{Throw, keep_throws, pending_before};
 use jm_heap::Heap;
 use jm_machine::Machine;
-use jm_waits::{is_blocked, waiting_after};
+use jm_blocked_threads::{is_blocked, waiting_after};
 use jm_world::{Event, Reply, ReplyKind};
 use std::alloc::{AllocError, Global};
 use std::marker::Model;

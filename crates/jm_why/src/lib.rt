@@ -7,7 +7,7 @@
 //! is told as in a trace (`jm_trace`). [`watch`] makes the events that are due (`jm_events`) and keeps that; [`write_answer`]
 //! writes the text, and [`write_why`] does both into a writer of pieces (`jm_page`).
 //!
-//! The crate stands on `jm_machine`, `jm_debug`, `jm_page`, `jm_events`, `jm_needs`, `jm_trace` and `jm_waits`.
+//! The crate stands on `jm_machine`, `jm_debug`, `jm_page`, `jm_events`, `jm_needs`, `jm_trace` and `jm_blocked_threads`.
 #![tactic(auto)]
 
 mod answer;

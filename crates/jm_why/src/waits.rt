@@ -12,7 +12,7 @@ ghost use Rattle.jm_why.specs.Waits.{awaited_text, frame_waits, held_by, holds_t
 use jm_heap::Heap;
 use jm_machine::{Machine, WorldFrame, WorldMonitor};
 use jm_program::Name;
-use jm_waits::{asked_by_method, is_waiting};
+use jm_blocked_threads::{asked_by_method, is_waiting};
 use std::alloc::AllocError;
 use std::fmt::Write;
 

@@ -11,7 +11,7 @@ use crate::kept::Kept;
 use jm_events::EventsDue;
 use jm_heap::Heap;
 use jm_machine::Machine;
-use jm_waits::is_blocked;
+use jm_blocked_threads::is_blocked;
 use jm_world::Event;
 use std::alloc::{AllocError, Global};
 

@@ -1,5 +1,5 @@
 -- By what keeps a blocked thread back.
-use Rattle.jm_waits.proofs.Blocking.{blocked_waits}
+use Rattle.jm_blocked_threads.proofs.Blocking.{blocked_waits}
 use Rattle.jm_why.proofs.WaitsOf.{waits_told}
 use Rattle.jm_why.proofs.laws.blocked_threads_are_told_with_what_keeps_them_back.Goals as goal
 

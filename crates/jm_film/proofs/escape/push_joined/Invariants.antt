@@ -1,7 +1,0 @@
--- What was written, and what is left to be written.
-use Rattle.std.proofs.Common.{◌≡◌, ◌++◌, drop}
-use Rattle.jm_film.specs.Escapes.{joined}
-use Rattle.jm_film.proofs.escape.push_joined.Given as goal
-
-abbrev pub invariant-loop-byte : goal.invariant-loop-byte
-invariant-loop-byte l = l.out.items ++ joined (drop l.byte-index l.text) ≡ l.initial.out.items ++ joined l.text

@@ -1,6 +1,0 @@
--- The lemma.
-use Rattle.jm_film.proofs.Harmless.{run_harmless}
-use Rattle.jm_film.proofs.laws.runs_are_harmless.Goals as goal
-
-pub returns : goal.returns
-returns c = run_harmless

@@ -1,0 +1,97 @@
+// The events that are shown, and the end of the page.
+
+ghost use Rattle.std.specs.Prelude.{◌≡◌, ◌++◌, [], OnOk, take};
+ghost use Rattle.jm_world.specs.RoundRobin.{is_blocked};
+ghost use Rattle.jm_world.specs.Run.{after, run_from};
+ghost use Rattle.jm_world.specs.World.{World};
+ghost use Rattle.jm_machine.specs.View.{MatchesWorld};
+ghost use Rattle.jm_page.specs.Data.{row_text};
+ghost use Rattle.jm_page.specs.declared.row.Row.TheVariants.{End};
+ghost use Rattle.jm_film.specs.Runs.{event_written, filming_behind};
+ghost use Rattle.jm_page.specs.Writing.{Puts};
+ghost use Rattle.jm_page.specs.declared.page.TheConstants.{BELOW};
+ghost use Rattle.jm_film.specs.Shots.{end_row, shots};
+
+use crate::filming::Filming;
+use jm_blocked_threads::is_blocked;
+use jm_events::EventsDue;
+use jm_heap::Heap;
+use jm_machine::Machine;
+use jm_page::{BELOW, PageFault, PageWriter, Row, put_piece, write_row};
+use jm_world::Event;
+use std::alloc::Global;
+
+// Ends the page: writes the last row, and the template's text below the data.
+fn put_end<P: PageWriter>(word: &[u8], piece: &mut Vec<u8>, page: &mut P) -> Result<(), PageFault>
+    requires { piece.old.items ≡ [] }
+    ensures { Puts P.wrote P.broke result page.old (row_text End word.now ++ BELOW.now) page.new }
+{
+    write_row(piece, Row::End, word)?;
+    piece.extend_from_slice(BELOW.as_bytes())?;
+    put_piece(page, piece)
+}
+
+// Makes an event, and writes it.
+fn shoot<H: Heap, S: EventsDue, P: PageWriter>(
+    alloc: Global,
+    machine: &mut Machine<H>,
+    events: &mut S,
+    event: Event,
+    filming: &mut Filming,
+    piece: &mut Vec<u8>,
+    page: &mut P,
+) -> Result<(), PageFault>
+    requires { piece.old.items ≡ [] }
+    ensures told { (w : World) → MatchesWorld machine.old w → Puts P.wrote P.broke result page.old (event_written w filming.old event) page.new }
+    ensures made { (w : World) → MatchesWorld machine.old w → OnOk result (MatchesWorld machine.new (after w event).world) }
+    ensures behind { (w : World) → MatchesWorld machine.old w → OnOk result (filming.new ≡ filming_behind w filming.old event) }
+    ensures seen { (w : World) → MatchesWorld machine.old w → OnOk result (events.new ≡ S.seen events.old (is_blocked (after w event).reply.kind)) }
+    ensures empty { OnOk result (piece.new.items ≡ []) }
+{
+    let reply = filming.event(alloc, piece, machine, event)?;
+    events.see(is_blocked(reply.kind));
+    put_piece(page, piece)
+}
+
+// Ends the page behind the last event that is shown.
+fn put_last<H: Heap, S: EventsDue, P: PageWriter>(
+    machine: &Machine<H>,
+    events: &mut S,
+    piece: &mut Vec<u8>,
+    page: &mut P,
+) -> Result<(), PageFault>
+    requires { piece.old.items ≡ [] }
+    ensures { (w : World) → MatchesWorld machine.now w → S.knows events.old w
+        → Puts P.wrote P.broke result page.old (end_row (S.due events.old w) ++ BELOW.now) page.new }
+{
+    let Some(_due) = events.next(machine)? else {
+        return put_end(b"end", piece, page);
+    };
+    put_end(b"cut", piece, page)
+}
+
+/// Makes at most so many of the events that are due, writes each, and ends the page, which says whether the run goes
+/// on behind them. `OutOfMemory`: a growth was refused; `WriteFailed`: a write failed.
+pub fn show<H: Heap, S: EventsDue, P: PageWriter>(
+    alloc: Global,
+    machine: &mut Machine<H>,
+    events: &mut S,
+    steps: u32,
+    filming: &mut Filming,
+    piece: &mut Vec<u8>,
+    page: &mut P,
+) -> Result<(), PageFault>
+    requires { piece.old.items ≡ [] }
+    ensures told { (w : World) → MatchesWorld machine.old w → S.knows events.old w
+        → Puts P.wrote P.broke result page.old (shots steps w filming.old (S.due events.old w) ++ BELOW.now) page.new }
+    ensures made { (w : World) → MatchesWorld machine.old w → S.knows events.old w
+        → OnOk result (MatchesWorld machine.new (run_from w (take steps (S.due events.old w)))) }
+{
+    for shot in 0..steps {
+        let Some(due) = events.next(machine)? else {
+            return put_end(b"end", piece, page);
+        };
+        shoot(alloc, machine, events, due.event, filming, piece, page)?;
+    }
+    put_last(machine, events, piece, page)
+}

@@ -1,4 +1,0 @@
-pub mod Passing
-pub mod Telling
-pub mod Fronts
-pub mod Harmless

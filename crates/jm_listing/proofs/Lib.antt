@@ -1,2 +1,0 @@
-pub mod Harmless
-pub mod WorkedListing

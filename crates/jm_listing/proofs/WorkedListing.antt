@@ -1,8 +1,0 @@
--- The rows of a source, by computation.
-use Rattle.std.specs.Prelude.{◌≡◌, codes, refl}
-use Rattle.jm_film.specs.Escapes.{escaped_byte}
-use Rattle.jm_listing.specs.Listings.{source_byte, source_lines}
-
-two_lines : source_lines (codes "if (1 < 2)\n\tprint();\n") ≡ codes " if (1 \\u003C 2)\n \\u0009print();\n \n"
-unfolding source_lines source_byte escaped_byte
-two_lines = refl

@@ -1,0 +1,8 @@
+-- What was written, and what is left to be written.
+use Rattle.std.proofs.Common.{◌≡◌, ◌++◌, drop}
+use Rattle.std.specs.List.{flat_map}
+use Rattle.jm_page.specs.Data.{text_if_gone}
+use Rattle.jm_page.proofs.change.write_gone.Given as goal
+
+abbrev pub invariant-loop-section : goal.invariant-loop-section
+invariant-loop-section l = l.out.items ++ flat_map (text_if_gone l.new) (drop l.section-index l.old) ≡ l.initial.out.items ++ flat_map (text_if_gone l.new) l.old
