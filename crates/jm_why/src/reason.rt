@@ -31,16 +31,6 @@ fn reason<H: Heap, S: EventsDue>(
     Ok(text)
 }
 
-// Writes a text.
-fn put_text<P: PageWriter>(text: &str, page: &mut P) -> Result<(), PageFault>
-    ensures { Puts P.wrote P.broke result page.old text.now page.new }
-{
-    match page.put(text.as_bytes()) {
-        Ok(()) => Ok(()),
-        Err(_) => Err(PageFault::WriteFailed),
-    }
-}
-
 /// Makes the events that are due from a machine's world on, and then writes how the run ended. A limit is that of the
 /// events of turns. `OutOfMemory`: a growth was refused, and nothing is written. `WriteFailed`: a write failed. Memory:
 /// each thread's frames at its last throws, as they are told, beside the machine.
@@ -54,8 +44,11 @@ pub fn write_why<H: Heap, S: EventsDue, P: PageWriter>(
     ensures written { (w : World) → MatchesWorld machine.old w → Puts P.wrote P.broke result page.old (why limit w (S.due events.old w)) page.new }
     ensures made { (w : World) → MatchesWorld machine.old w → OnOk result (MatchesWorld machine.new (run_from w (S.due events.old w))) }
 {
-    match reason(alloc, machine, events, limit) {
-        Ok(text) => put_text(text.as_str(), page),
-        Err(_) => Err(PageFault::OutOfMemory),
+    let Ok(text) = reason(alloc, machine, events, limit) else {
+        return Err(PageFault::OutOfMemory);
+    };
+    match page.put(text.as_str().as_bytes()) {
+        Ok(()) => Ok(()),
+        Err(_) => Err(PageFault::WriteFailed),
     }
 }

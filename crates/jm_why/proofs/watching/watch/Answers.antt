@@ -1,5 +1,6 @@
 -- Each turn makes an event, and keeps what it came to.
-use Rattle.std.proofs.Common.{◌≡◌, ◌∷◌, refl, sym, ap, subst}
+use Rattle.std.proofs.Common.{◌≡◌, ◌∷◌, refl, sym, ap, subst, ◌∙◌}
+use Rattle.jm_world.specs.RoundRobin.{is_blocked}
 use Rattle.jm_world.specs.Run.{after}
 use Rattle.jm_machine.specs.View.{MatchesWorld}
 use Rattle.jm_why.specs.Kept.{kept_from}
@@ -15,11 +16,12 @@ loop-made-preserved g c = λ w m.
     let so_far = c.loop-made.invariant w m in
     let now = so_far.0 in
     let event = c.in-Some.event in
+    let made = c.in_ok-reply.ensures.made now so_far.1 in
     let due = subst (λ s. g.S.EventsDue.due c.loop-made.events now ≡ event ∷ g.S.EventsDue.due s (after now event).world)
-    (sym (c.in_ok-watch_event.ensures.seen now so_far.1)) (c.in-Some.ensures now so_far.1) in (
+    (sym (c.see.ensures ∙ ap (g.S.EventsDue.seen _) (c.is_blocked.ensures ∙ ap (λ r. is_blocked r.kind) made.1))) (c.in-Some.ensures now so_far.1) in (
       (after now event).world,
-      c.in_ok-watch_event.ensures.made now so_far.1,
-      one_kept now _ _ _ _ _ event due (c.in_ok-watch_event.ensures.kept now so_far.1) so_far.2,
+      made.0,
+      one_kept now _ _ _ _ _ event due (c.in_ok-reply.ensures.kept now so_far.1) so_far.2,
       one_made now _ _ _ event due so_far.3,
     )
 
