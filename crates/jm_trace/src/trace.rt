@@ -11,7 +11,7 @@ ghost use Rattle.jm_trace.specs.Traces.{trace};
 
 use crate::event_line::{write_before, write_behind};
 use crate::shown::{Shown, is_shown};
-use jm_due::EventsDue;
+use jm_events::EventsDue;
 use jm_heap::Heap;
 use jm_machine::Machine;
 use jm_page::{PageFault, PageWriter};
@@ -96,16 +96,20 @@ pub fn write_trace<H: Heap, S: EventsDue, P: PageWriter>(
     shown: Shown,
     page: &mut P,
 ) -> Result<(), PageFault>
-    ensures written { (w : World) → MatchesWorld machine.old w → Puts P.wrote P.broke result page.old (trace shown w (S.due events.old w)) page.new }
-    ensures made { (w : World) → MatchesWorld machine.old w → OnOk result (MatchesWorld machine.new (run_from w (S.due events.old w))) }
+    ensures written { (w : World) → MatchesWorld machine.old w → S.knows events.old w
+        → Puts P.wrote P.broke result page.old (trace shown w (S.due events.old w)) page.new }
+    ensures made { (w : World) → MatchesWorld machine.old w → S.knows events.old w → OnOk result (MatchesWorld machine.new (run_from w (S.due events.old w))) }
 {
     let mut left = shown.most;
     for number in 1..u64::MAX {
-        let Some(event) = events.next(machine) else {
+        let Ok(next) = events.next(machine) else {
+            return Err(PageFault::OutOfMemory);
+        };
+        let Some(due) = next else {
             return Ok(());
         };
-        let told = is_shown(shown, number, left, event);
-        put_told(alloc, machine, events, number, event, told, page)?;
+        let told = is_shown(shown, number, left, due.event);
+        put_told(alloc, machine, events, number, due.event, told, page)?;
         left = left_behind(left, told);
     }
     Err(PageFault::OutOfMemory)

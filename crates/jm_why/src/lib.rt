@@ -6,10 +6,10 @@
 //! (`specs/Needs`): `iadd` takes `int, int`, `aload 3` a `reference in local variable 3`, `getfield` the class that it names.
 //!
 //! What is told is a definition over worlds (`specs/`): over the last world of the run, and over what is kept of its events
-//! ([`Kept`]), a fold. A frame is told as in a trace (`jm_trace`). [`watch`] makes the events that are due (`jm_due`) and
+//! ([`Kept`]), a fold. A frame is told as in a trace (`jm_trace`). [`watch`] makes the events that are due (`jm_events`) and
 //! keeps that; [`write_answer`] writes the text, and [`write_why`] does both into a writer of pieces (`jm_page`).
 //!
-//! The crate stands on `jm_machine`, `jm_debug`, `jm_page`, `jm_due`, `jm_trace` and `jm_waits`.
+//! The crate stands on `jm_machine`, `jm_debug`, `jm_page`, `jm_events`, `jm_trace` and `jm_waits`.
 #![tactic(auto)]
 
 mod answer;

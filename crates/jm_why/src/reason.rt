@@ -9,7 +9,7 @@ ghost use Rattle.jm_why.specs.Answers.{why};
 
 use crate::answer::write_answer;
 use crate::watching::watch;
-use jm_due::EventsDue;
+use jm_events::EventsDue;
 use jm_heap::Heap;
 use jm_machine::Machine;
 use jm_page::{PageFault, PageWriter};
@@ -22,8 +22,8 @@ fn reason<H: Heap, S: EventsDue>(
     events: &mut S,
     limit: Option<u64>,
 ) -> Result<String, AllocError>
-    ensures text { (w : World) → MatchesWorld machine.old w → IfOk result (λ text. text.bytes.items ≡ why limit w (S.due events.old w)) }
-    ensures made { (w : World) → MatchesWorld machine.old w → IfOk result (λ text. MatchesWorld machine.new (run_from w (S.due events.old w))) }
+    ensures text { (w : World) → MatchesWorld machine.old w → S.knows events.old w → IfOk result (λ text. text.bytes.items ≡ why limit w (S.due events.old w)) }
+    ensures made { (w : World) → MatchesWorld machine.old w → S.knows events.old w → IfOk result (λ text. MatchesWorld machine.new (run_from w (S.due events.old w))) }
 {
     let kept = watch(alloc, machine, events)?;
     let mut text = String::new(alloc);
@@ -41,8 +41,8 @@ pub fn write_why<H: Heap, S: EventsDue, P: PageWriter>(
     limit: Option<u64>,
     page: &mut P,
 ) -> Result<(), PageFault>
-    ensures written { (w : World) → MatchesWorld machine.old w → Puts P.wrote P.broke result page.old (why limit w (S.due events.old w)) page.new }
-    ensures made { (w : World) → MatchesWorld machine.old w → OnOk result (MatchesWorld machine.new (run_from w (S.due events.old w))) }
+    ensures written { (w : World) → MatchesWorld machine.old w → S.knows events.old w → Puts P.wrote P.broke result page.old (why limit w (S.due events.old w)) page.new }
+    ensures made { (w : World) → MatchesWorld machine.old w → S.knows events.old w → OnOk result (MatchesWorld machine.new (run_from w (S.due events.old w))) }
 {
     let Ok(text) = reason(alloc, machine, events, limit) else {
         return Err(PageFault::OutOfMemory);

@@ -7,7 +7,7 @@ ghost use Rattle.jm_machine.specs.View.{MatchesWorld};
 ghost use Rattle.jm_why.specs.Kept.{kept_of};
 
 use crate::kept::Kept;
-use jm_due::EventsDue;
+use jm_events::EventsDue;
 use jm_heap::Heap;
 use jm_machine::Machine;
 use jm_waits::is_blocked;
@@ -21,15 +21,15 @@ pub fn watch<H: Heap, S: EventsDue>(
     machine: &mut Machine<H>,
     events: &mut S,
 ) -> Result<Kept, AllocError>
-    ensures made { (w : World) → MatchesWorld machine.old w → IfOk result (λ kept. MatchesWorld machine.new (run_from w (S.due events.old w))) }
-    ensures kept { (w : World) → MatchesWorld machine.old w → IfOk result (λ kept. kept ≡ kept_of w (S.due events.old w)) }
+    ensures made { (w : World) → MatchesWorld machine.old w → S.knows events.old w → IfOk result (λ kept. MatchesWorld machine.new (run_from w (S.due events.old w))) }
+    ensures kept { (w : World) → MatchesWorld machine.old w → S.knows events.old w → IfOk result (λ kept. kept ≡ kept_of w (S.due events.old w)) }
 {
     let mut kept = Kept::nothing(alloc);
     for made in 0..u64::MAX {
-        let Some(event) = events.next(machine) else {
+        let Some(due) = events.next(machine)? else {
             return Ok(kept);
         };
-        let reply = kept.event(alloc, machine, event)?;
+        let reply = kept.event(alloc, machine, due.event)?;
         events.see(is_blocked(reply.kind));
     }
     Err(AllocError)
