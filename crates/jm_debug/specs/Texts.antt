@@ -7,6 +7,7 @@ use Rattle.jm_program.specs.JasminTypes.{type_line, method_line}
 use Rattle.jm_program.specs.declared.class.ClassParts.{ClassParts}
 use Rattle.jm_program.specs.declared.class.Method.{Method}
 use Rattle.jm_program.specs.declared.code.LineNumber.{LineNumber}
+use Rattle.jm_program.specs.declared.descriptor.MethodDescriptor.{MethodDescriptor}
 use Rattle.jm_values.specs.declared.value.Value.{Value}
 use Rattle.jm_values.specs.declared.value.Value.TheVariants.{Int, Long, Null, Ref}
 use Rattle.jm_world.specs.Types.{ObjectType, instance_of, array_of, type_of_object}
@@ -34,9 +35,13 @@ unfoldable pub object_type_text : ObjectType → List ℕ
 object_type_text (instance_of class) = name_text class
 object_type_text (array_of component) = type_line (type_of_object (array_of component))
 
+-- a method of a class: CLASS.METHODDESC
+abbrev pub method_place_text : List ℕ → List ℕ → MethodDescriptor → List ℕ
+method_place_text class name descriptor = name_text class ++ codes "." ++ name_text name ++ method_line descriptor
+
 -- PLACE
 unfoldable pub place_text : Place → List ℕ
-place_text p = name_text p.class ++ codes "." ++ name_text p.method ++ method_line p.descriptor ++ codes ":" ++ decimal p.instruction
+place_text p = method_place_text p.class p.method p.descriptor ++ codes ":" ++ decimal p.instruction
 
 -- the line of an instruction (JVMS 4.7.12): that of the entry that begins last, but not behind it; of
 -- entries that begin together, the last

@@ -3,16 +3,15 @@
 ghost use Rattle.std.specs.Prelude.{◌≡◌, ◌++◌, OnOk, OnErr, IfOk, option_map};
 ghost use Rattle.std.specs.List.{list_any};
 ghost use Rattle.jm_world.specs.World.{World, thread_at};
-ghost use Rattle.jm_machine.specs.Readers.{model_frame, name_of_frame};
+ghost use Rattle.jm_machine.specs.Readers.{model_frame};
 ghost use Rattle.jm_machine.specs.View.{MatchesWorld};
-ghost use Rattle.jm_debug.specs.Texts.{place_in};
 ghost use Rattle.jm_debug.specs.Session.{ended, same_place, holds_break, with_break, without_break, place_of_frame, place_of_thread, break_at, break_text};
 ghost use Rattle.jm_debug.specs.Answering.{model_place};
 
 use crate::place::Place;
-use crate::text::PlaceText;
+use crate::text::{PlaceText, place_of_method};
 use jm_heap::Heap;
-use jm_machine::{Machine, MethodFrame, WorldFrame};
+use jm_machine::{Machine, WorldFrame};
 use std::alloc::{AllocError, Global};
 use std::fmt::Write;
 
@@ -42,13 +41,8 @@ pub fn put_break(breaks: &mut Vec<Place>, place: Place) -> Result<(), AllocError
         drop(place);
         return Ok(());
     }
-    match breaks.push(place) {
-        Ok(()) => Ok(()),
-        Err(refused) => {
-            drop(refused);
-            Err(AllocError)
-        }
-    }
+    breaks.push(place)?;
+    Ok(())
 }
 
 /// Takes the break at a place away, if it holds one.
@@ -56,19 +50,6 @@ pub fn take_break(breaks: &mut Vec<Place>, place: &Place)
     ensures { breaks.new.items ≡ without_break place.now breaks.old.items }
 {
     breaks.retain(|other| !is_same(place.text(), other));
-}
-
-/// Where the frame of a method stands.
-pub fn place_of_method<'a, H: Heap>(frame: &MethodFrame<'a, H>) -> PlaceText<'a>
-    ensures { model_place result ≡ place_in (name_of_frame frame.now) frame.now.activation.at }
-{
-    let method = frame.method();
-    PlaceText {
-        class: &frame.class().parts().name,
-        method: &method.name,
-        descriptor: &method.descriptor,
-        instruction: frame.at() as u64,
-    }
 }
 
 // Where a frame stands, if it is a method's.

@@ -156,27 +156,20 @@ fn words_command(alloc: Global, word: &[u16], words: Option<&[u16]>) -> Result<C
     }
 }
 
-// The command that code units denote.
-#[tactic(auto, unfolding(crate::specs::Commands::command))]
-fn units_command(alloc: Global, line: &[u16]) -> Result<Command, DebugFault>
-    ensures { Reads result (command line.now) }
-{
-    if has_line_end(line) {
-        return Err(DebugFault::BadCommand);
-    }
-    let (word, words) = first_word(line);
-    words_command(alloc, word, words)
-}
-
 impl Command {
     /// The command that a line denotes, which is handed over without its line feed: words parted by
     /// one blank each. `BadCommand`: exactly where it denotes none: a word that is none, a number
     /// that is no number or past its range, a place or a `#K` of another shape, a word missing or
     /// too many, the end of a line inside it. `OutOfMemory`: a growth was refused.
+    #[tactic(auto, unfolding(crate::specs::Commands::command))]
     pub fn parse(alloc: Global, line: &str) -> Result<Command, DebugFault>
         ensures { Reads result (command (utf16_of line.now)) }
     {
         let units = code_units(alloc, line)?;
-        units_command(alloc, &units)
+        if has_line_end(&units) {
+            return Err(DebugFault::BadCommand);
+        }
+        let (word, words) = first_word(&units);
+        words_command(alloc, word, words)
     }
 }

@@ -10,10 +10,20 @@ ghost use Rattle.jm_debug.specs.Session.{ended, bytes_of, Shows};
 
 use crate::answer::or_none;
 use crate::fault::DebugFault;
-use crate::value::write_value;
+use crate::text::ValueText;
 use jm_heap::Heap;
 use jm_machine::{Machine, MethodFrame, WorldFrame, WorldValue};
 use std::alloc::{AllocError, Global};
+use std::fmt::Write;
+
+// Writes the line of a local variable or an operand.
+#[tactic(auto, using(crate::proofs::Written::one_line))]
+fn write_value(out: &mut String, number: usize, value: WorldValue) -> Result<(), AllocError>
+    ensures { OnOk result (out.new.bytes.items ≡ out.old.bytes.items ++ flat_map ended (value_lines number (model_value value))) }
+{
+    let value = ValueText(value);
+    write!(out, "{number} = {value}\n")
+}
 
 // Writes a variable, if there is one and it is set.
 fn write_local(
@@ -26,8 +36,7 @@ fn write_local(
 {
     match local {
         Some(Some(value)) => write_value(out, number, value),
-        Some(None) => Ok(()),
-        None => Ok(()),
+        Some(None) | None => Ok(()),
     }
 }
 

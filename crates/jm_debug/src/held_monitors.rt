@@ -15,23 +15,16 @@ use jm_machine::{Machine, WorldMonitor};
 use std::alloc::{AllocError, Global};
 use std::fmt::Write;
 
-// Writes the line of a monitor.
-#[tactic(auto, unfolding(crate::specs::Views::monitor_text, crate::specs::Texts::reference_text))]
-fn write_monitor(out: &mut String, monitor: WorldMonitor) -> Result<(), AllocError>
-    ensures { OnOk result (out.new.bytes.items ≡ out.old.bytes.items ++ ended (monitor_text (model_monitor monitor))) }
-{
-    let object = monitor.object;
-    let owner = monitor.owner;
-    let count = monitor.count;
-    write!(out, "#{object} t{owner} x{count}\n")
-}
-
 /// Writes a line of each monitor. `AllocError`: a growth was refused; some of them may stand there then.
+#[tactic(auto, unfolding(crate::specs::Views::monitor_text, crate::specs::Texts::reference_text))]
 pub fn write_monitors(out: &mut String, monitors: &[WorldMonitor]) -> Result<(), AllocError>
     ensures { OnOk result (out.new.bytes.items ≡ out.old.bytes.items ++ flat_map ended (map monitor_text (map model_monitor monitors.now))) }
 {
     for monitor in monitors {
-        write_monitor(out, *monitor)?;
+        let object = monitor.object;
+        let owner = monitor.owner;
+        let count = monitor.count;
+        write!(out, "#{object} t{owner} x{count}\n")?;
     }
     Ok(())
 }

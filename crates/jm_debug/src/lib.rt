@@ -31,7 +31,6 @@ mod static_fields;
 pub mod text;
 mod thread;
 mod turn;
-mod value;
 mod word;
 
 pub use command::Command;

@@ -1,7 +1,7 @@
 // Places of a program.
 
 ghost use Rattle.std.specs.Prelude.{◌≡◌, ◌<◌, length, IfSome};
-ghost use Rattle.jm_debug.specs.Commands.{Reads, method_type, first_of, last_of, member, class_member, place};
+ghost use Rattle.jm_debug.specs.Commands.{Reads, method_type, first_of, last_of, member, place};
 ghost use Rattle.jm_debug.specs.Answering.{model_place};
 
 use crate::fault::DebugFault;
@@ -84,16 +84,6 @@ fn member(
     })
 }
 
-// CLASS.METHODDESC, with an instruction.
-fn class_member(alloc: Global, units: &[u16], instruction: u64) -> Result<Place, DebugFault>
-    ensures { Reads result (class_member units.now instruction) }
-{
-    let Some(point) = first_of(POINT, units) else {
-        return Err(DebugFault::BadCommand);
-    };
-    member(alloc, &units[..point], &units[point + 1..], instruction)
-}
-
 impl Place {
     /// The place, to be written.
     pub(crate) fn text(&self) -> PlaceText<'_>
@@ -116,6 +106,10 @@ impl Place {
             return Err(DebugFault::BadCommand);
         };
         let instruction = number(&units[colon + 1..])?;
-        class_member(alloc, &units[..colon], instruction)
+        let units = &units[..colon];
+        let Some(point) = first_of(POINT, units) else {
+            return Err(DebugFault::BadCommand);
+        };
+        member(alloc, &units[..point], &units[point + 1..], instruction)
     }
 }

@@ -2,8 +2,6 @@
 
 ghost use Rattle.std.specs.Prelude.{◌≡◌, ◌++◌, OnOk, IfOk, option_map, codes};
 ghost use Rattle.std.specs.List.{flat_map, zip};
-ghost use Rattle.std.specs.Fmt.{decimal};
-ghost use Rattle.jm_world.specs.Types.{array_of};
 ghost use Rattle.jm_world.specs.World.{World};
 ghost use Rattle.jm_machine.specs.Readers.{model_value, model_element, model_type, model_field};
 ghost use Rattle.jm_machine.specs.Seen.{fields_of_type};
@@ -13,7 +11,7 @@ ghost use Rattle.jm_debug.specs.Views.{lines_from, lines_of, field_lines, elemen
 ghost use Rattle.jm_debug.specs.Session.{ended, bytes_of, Shows};
 
 use crate::fault::DebugFault;
-use crate::value::{ValueText, write_element};
+use crate::text::ValueText;
 use jm_heap::Heap;
 use jm_machine::{ElementKind, Machine, ObjectKind, WorldField, WorldObject, WorldValue};
 use jm_program::{ElementType, FieldType, Name};
@@ -30,17 +28,9 @@ fn element_type(alloc: Global, element: ElementKind<'_>) -> Result<ElementType, 
     }
 }
 
-// Writes the descriptor of an array with such elements.
-#[tactic(auto, using(crate::proofs::ObjectsShown::array_text))]
-fn write_array_type(out: &mut String, component: &FieldType) -> Result<(), AllocError>
-    ensures { OnOk result (out.new.bytes.items ≡ out.old.bytes.items ++ object_type_text (array_of component.now)) }
-{
-    write!(out, "[{component}")
-}
-
 /// Writes the class of an object, or the descriptor of an array, with no line feed. `AllocError`: a
 /// growth was refused; a part of it may stand there then.
-#[tactic(auto, unfolding(crate::specs::Texts::object_type_text))]
+#[tactic(auto, using(crate::proofs::ObjectsShown::array_text), unfolding(crate::specs::Texts::object_type_text))]
 pub fn write_type(alloc: Global, out: &mut String, kind: ObjectKind<'_>) -> Result<(), AllocError>
     ensures { OnOk result (out.new.bytes.items ≡ out.old.bytes.items ++ object_type_text (model_type kind.entry)) }
 {
@@ -58,7 +48,7 @@ pub fn write_type(alloc: Global, out: &mut String, kind: ObjectKind<'_>) -> Resu
                 dimensions,
                 element,
             };
-            write_array_type(out, &component)
+            write!(out, "[{component}")
         }
     }
 }
@@ -82,8 +72,9 @@ fn write_field(
     write!(out, "{class}.{name} {descriptor} = {value}\n")
 }
 
-// Writes an element, if there is one.
-fn write_read_element(
+// Writes the line of an element, if there is one.
+#[tactic(auto, using(crate::proofs::Written::one_line))]
+fn write_element(
     out: &mut String,
     index: usize,
     value: Option<WorldValue>,
@@ -91,7 +82,10 @@ fn write_read_element(
     ensures { OnOk result (out.new.bytes.items ≡ out.old.bytes.items ++ flat_map ended (lines_of element_lines index (option_map model_value value))) }
 {
     match value {
-        Some(value) => write_element(out, index, value),
+        Some(value) => {
+            let value = ValueText(value);
+            write!(out, "[{index}] = {value}\n")
+        }
         None => Ok(()),
     }
 }
@@ -112,7 +106,7 @@ fn write_elements<H: Heap>(out: &mut String, object: &WorldObject<'_, H>) -> Res
     ensures { OnOk result (out.new.bytes.items ≡ out.old.bytes.items ++ flat_map ended (lines_from element_lines 0 object.now.object.values)) }
 {
     for index in 0..object.length() {
-        write_read_element(out, index as usize, object.value(index))?;
+        write_element(out, index as usize, object.value(index))?;
     }
     Ok(())
 }
@@ -138,12 +132,6 @@ pub fn write_number(out: &mut String, number: u64) -> Result<(), AllocError>
     write!(out, "#{number} ")
 }
 
-fn write_cells(out: &mut String, cells: u64) -> Result<(), AllocError>
-    ensures { OnOk result (out.new.bytes.items ≡ out.old.bytes.items ++ (codes " " ++ decimal cells ++ codes " cells\n")) }
-{
-    write!(out, " {cells} cells\n")
-}
-
 // Writes the line of an object that stands above those of its fields or elements.
 fn write_header<H: Heap>(
     alloc: Global,
@@ -155,7 +143,8 @@ fn write_header<H: Heap>(
 {
     write_number(out, number)?;
     write_type(alloc, out, object.kind())?;
-    write_cells(out, object.cells())?;
+    let cells = object.cells();
+    write!(out, " {cells} cells\n")?;
     Ok(())
 }
 

@@ -14,7 +14,7 @@ ghost use Rattle.jm_debug.specs.Session.{ended, bytes_of, Shows};
 
 use crate::answer::or_none;
 use crate::fault::DebugFault;
-use crate::value::ValueText;
+use crate::text::ValueText;
 use jm_builtins::{BuiltIn, builtins};
 use jm_heap::Heap;
 use jm_machine::{Machine, WorldStatic, WorldStatics};

@@ -1,12 +1,34 @@
-// The texts of places, lines of the source, stages and replies.
+// The texts of values, places, lines of the source, stages and replies.
 
 ghost use Rattle.std.specs.Prelude.{◌≡◌, Some, None};
-ghost use Rattle.jm_debug.specs.Texts.{place_text, best_of, line_entry, line_in, line_text, stage_text, kind_text};
+ghost use Rattle.jm_machine.specs.Readers.{model_value, name_of_frame};
+ghost use Rattle.jm_debug.specs.Texts.{value_text, place_text, place_in, best_of, line_entry, line_in, line_text, stage_text, kind_text};
+ghost use Rattle.jm_debug.specs.Answering.{model_place};
 
+use jm_heap::Heap;
+use jm_machine::{MethodFrame, WorldValue};
 use jm_program::{LineNumber, Method, MethodDescriptor, Name};
 use jm_world::{ReplyKind, Stage};
 use std::fmt;
 use std::fmt::Display;
+
+/// A value; a reference is the number of its object.
+#[derive(Clone, Copy)]
+pub struct ValueText(pub WorldValue);
+
+#[tactic(auto, unfolding(crate::specs::Texts::value_text, crate::specs::Texts::reference_text))]
+impl Display for ValueText {
+    ghost output = { λ text. Some (value_text (model_value text.0)) };
+
+    fn fmt<W: fmt::Write>(&self, f: &mut fmt::Formatter<W>) -> fmt::Result {
+        match self.0 {
+            WorldValue::Int(number) => write!(f, "int {number}"),
+            WorldValue::Long(number) => write!(f, "long {number}"),
+            WorldValue::Null => f.write_str("null"),
+            WorldValue::Ref(number) => write!(f, "#{number}"),
+        }
+    }
+}
 
 /// An instruction of a method, as it is written: CLASS.METHODDESC:N.
 #[derive(Clone, Copy)]
@@ -32,6 +54,19 @@ impl Display for PlaceText<'_> {
         let descriptor = self.descriptor;
         let instruction = self.instruction;
         write!(f, "{class}.{method}{descriptor}:{instruction}")
+    }
+}
+
+/// Where the frame of a method stands.
+pub fn place_of_method<'a, H: Heap>(frame: &MethodFrame<'a, H>) -> PlaceText<'a>
+    ensures { model_place result ≡ place_in (name_of_frame frame.now) frame.now.activation.at }
+{
+    let method = frame.method();
+    PlaceText {
+        class: &frame.class().parts().name,
+        method: &method.name,
+        descriptor: &method.descriptor,
+        instruction: frame.at() as u64,
     }
 }
 

@@ -1,76 +1,26 @@
 // Where a thread stands.
 
-ghost use Rattle.std.specs.Prelude.{◌≡◌, ◌++◌, ℕ, List, OnOk, Some};
+ghost use Rattle.std.specs.Prelude.{◌≡◌, ◌++◌, List, OnOk, Some};
 ghost use Rattle.std.specs.List.{flat_map};
 ghost use Rattle.std.specs.Option.{option_copied};
 ghost use Rattle.jm_program.specs.declared.class.ClassParts.{ClassParts};
-ghost use Rattle.jm_world.specs.Classes.{method_named};
-ghost use Rattle.jm_world.specs.Frames.{method_frame, initialization_frame, entry_frame};
 ghost use Rattle.jm_world.specs.World.{World, Thread, thread_at};
-ghost use Rattle.jm_machine.specs.Readers.{name_of_frame, model_frame, IsOfProgram};
+ghost use Rattle.jm_machine.specs.Readers.{model_frame, IsOfProgram};
 ghost use Rattle.jm_machine.specs.View.{MatchesWorld};
-ghost use Rattle.jm_debug.specs.Views.{lines_from, frame_lines, pending_lines, running_lines, end_lines, thread_lines, where_lines};
+ghost use Rattle.jm_debug.specs.Views.{lines_from, frame_lines, pending_lines, end_lines, thread_lines, where_lines};
 ghost use Rattle.jm_debug.specs.Session.{ended, Shows};
 
 use crate::answer::or_none;
 use crate::fault::DebugFault;
-use crate::text::{LineText, PlaceText, StageText, line_of};
+use crate::text::{LineText, StageText, line_of, place_of_method};
 use jm_heap::Heap;
-use jm_machine::{Machine, MethodFrame, WorldFrame};
-use jm_program::{Class, Name};
-use jm_world::Stage;
+use jm_machine::{Machine, WorldFrame};
+use jm_program::Name;
 use std::alloc::{AllocError, Global};
 use std::fmt::Write;
 
-// Writes where a method's frame stands, with the line of the source if it is known.
-#[tactic(auto, using(crate::proofs::FramesWritten::method_line), unfolding(crate::specs::Texts::frame_text))]
-fn write_method_frame<H: Heap>(
-    out: &mut String,
-    depth: usize,
-    frame: &MethodFrame<'_, H>,
-) -> Result<(), AllocError>
-    ensures { (program : List ClassParts) → method_named program (name_of_frame frame.now) ≡ Some frame.now.method
-        → OnOk result (out.new.bytes.items ≡ out.old.bytes.items
-        ++ flat_map ended (frame_lines program depth (method_frame (name_of_frame frame.now) frame.now.activation frame.now.monitor))) }
-{
-    let class = frame.class();
-    let method = frame.method();
-    let instruction = frame.at() as u64;
-    let place = PlaceText {
-        class: &class.parts().name,
-        method: &method.name,
-        descriptor: &method.descriptor,
-        instruction,
-    };
-    let line = LineText(line_of(method, instruction));
-    write!(out, "{depth} {place}{line}\n")
-}
-
-// Writes where the initialization of a class stands.
-#[tactic(auto, using(crate::proofs::Written::one_line), unfolding(crate::specs::Texts::frame_text))]
-fn write_initialization(
-    out: &mut String,
-    depth: usize,
-    class: &Class,
-    stage: Stage,
-) -> Result<(), AllocError>
-    ensures { (program : List ClassParts) → OnOk result (out.new.bytes.items
-        ≡ out.old.bytes.items ++ flat_map ended (frame_lines program depth (initialization_frame class.now.name stage))) }
-{
-    let class = &class.parts().name;
-    let stage = StageText(stage);
-    write!(out, "{depth} init {class} {stage}\n")
-}
-
-// Writes that a thread has not begun.
-#[tactic(auto, using(crate::proofs::Written::one_line), unfolding(crate::specs::Texts::frame_text))]
-fn write_entry(out: &mut String, depth: usize) -> Result<(), AllocError>
-    ensures { (program : List ClassParts) → OnOk result (out.new.bytes.items ≡ out.old.bytes.items ++ flat_map ended (frame_lines program depth entry_frame)) }
-{
-    write!(out, "{depth} entry\n")
-}
-
-// Writes where a frame stands.
+// Writes where a frame stands: of a method with the line of the source, if it is known.
+#[tactic(auto, using(crate::proofs::Written::one_line, crate::proofs::FramesWritten::method_line), unfolding(crate::specs::Texts::frame_text))]
 fn write_frame<H: Heap>(
     out: &mut String,
     depth: usize,
@@ -80,11 +30,17 @@ fn write_frame<H: Heap>(
         → OnOk result (out.new.bytes.items ≡ out.old.bytes.items ++ flat_map ended (frame_lines program depth (model_frame frame.now))) }
 {
     match frame {
-        WorldFrame::Method(frame) => write_method_frame(out, depth, frame),
-        WorldFrame::Initialization { class, stage } => {
-            write_initialization(out, depth, class, *stage)
+        WorldFrame::Method(frame) => {
+            let place = place_of_method(frame);
+            let line = LineText(line_of(frame.method(), frame.at() as u64));
+            write!(out, "{depth} {place}{line}\n")
         }
-        WorldFrame::Entry => write_entry(out, depth),
+        WorldFrame::Initialization { class, stage } => {
+            let class = &class.parts().name;
+            let stage = StageText(*stage);
+            write!(out, "{depth} init {class} {stage}\n")
+        }
+        WorldFrame::Entry => write!(out, "{depth} entry\n"),
     }
 }
 
@@ -117,19 +73,6 @@ fn write_pending(out: &mut String, pending: Option<u64>) -> Result<(), AllocErro
     }
 }
 
-// Writes a pending exception and the frames.
-fn write_running<H: Heap>(
-    out: &mut String,
-    machine: &Machine<H>,
-    thread: u64,
-) -> Result<(), AllocError>
-    ensures { (w : World) (t : Thread) → MatchesWorld machine.now w → thread_at w thread ≡ Some t
-        → OnOk result (out.new.bytes.items ≡ out.old.bytes.items ++ flat_map ended (running_lines w.program t)) }
-{
-    write_pending(out, machine.pending(thread))?;
-    write_frames(out, machine, thread)
-}
-
 /// Writes the line that tells how a thread has ended: by an exception of a class, whose name is in
 /// UTF-16 code units, or by its last return. `AllocError`: a growth was refused; a part of the line may
 /// stand there then.
@@ -157,7 +100,8 @@ fn write_thread<H: Heap>(
         → OnOk result (out.new.bytes.items ≡ out.old.bytes.items ++ flat_map ended (thread_lines w.program t t.ending)) }
 {
     if machine.is_live(thread) {
-        write_running(out, machine, thread)
+        write_pending(out, machine.pending(thread))?;
+        write_frames(out, machine, thread)
     } else {
         write_end(alloc, out, machine.ended_by(thread))
     }

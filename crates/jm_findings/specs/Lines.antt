@@ -10,7 +10,7 @@ use Rattle.jm_linker.specs.declared.fault.LinkFault.{LinkFault}
 use Rattle.jm_linker.specs.declared.finding.Finding.{Finding}
 use Rattle.jm_linker.specs.declared.finding.Site.{Site}
 use Rattle.jm_linker.specs.declared.finding.Site.TheVariants as site
-use Rattle.jm_findings.specs.Places.{class_text, needed_text, numbered_text, place_text}
+use Rattle.jm_findings.specs.Places.{class_text, needed_text, numbered_text, source_place_text}
 use Rattle.jm_findings.specs.Others.{instead_text, main_text}
 use Rattle.jm_findings.specs.Told.{told}
 use Rattle.jm_findings.specs.declared.main_class.MainClass.{MainClass}
@@ -18,12 +18,12 @@ use Rattle.jm_findings.specs.declared.main_class.MainClass.{MainClass}
 -- an instruction: what it refers to, where it stands, and what there is instead
 unfoldable pub use_text : List ClassParts → LinkFault → ClassParts → Method → ℕ → Option Instr → List ℕ
 use_text program f c m at None = []
-use_text program f c m at (Some x) = needed_text f x ++ place_text c m at ++ instead_text program f x
+use_text program f c m at (Some x) = needed_text f x ++ source_place_text c m at ++ instead_text program f x
 
 -- a row of an exception table, by the instruction at which it catches
 unfoldable pub catch_text : ClassParts → Method → Option Handler → List ℕ
 catch_text c m None = []
-catch_text c m (Some h) = place_text c m h.target ++ codes ", as a catch type"
+catch_text c m (Some h) = source_place_text c m h.target ++ codes ", as a catch type"
 
 abbrev pub instruction_in : Method → ℕ → Option Instr
 instruction_in m i = elim m.code [ None ↦ None | Some code ↦ slice_get code.instructions i ]

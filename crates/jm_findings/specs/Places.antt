@@ -10,7 +10,7 @@ use Rattle.jm_program.specs.declared.instruction.symbolic.Instr.{Instr}
 use Rattle.jm_program.specs.declared.instruction.symbolic.Instr.TheVariants as instr
 use Rattle.jm_program.specs.declared.reference.FieldRef.{FieldRef}
 use Rattle.jm_program.specs.declared.reference.MethodRef.{MethodRef}
-use Rattle.jm_debug.specs.Texts.{line_in, line_text}
+use Rattle.jm_debug.specs.Texts.{line_in, line_text, method_place_text}
 use Rattle.jm_linker.specs.declared.fault.LinkFault.{LinkFault}
 use Rattle.jm_linker.specs.declared.fault.LinkFault.TheVariants as fault
 
@@ -33,9 +33,9 @@ unfoldable pub at_text : ℕ → Option LineNumber → List ℕ
 at_text at None = codes ":" ++ decimal at
 at_text at (Some l) = line_text (Some l)
 
--- an instruction of a method of a class
-unfoldable pub place_text : ClassParts → Method → ℕ → List ℕ
-place_text c m at = name_text c.name ++ codes "." ++ name_text m.name ++ method_line m.descriptor ++ at_text at (line_in at (Some m))
+-- an instruction of a method of a class, by its line
+unfoldable pub source_place_text : ClassParts → Method → ℕ → List ℕ
+source_place_text c m at = method_place_text c.name m.name m.descriptor ++ at_text at (line_in at (Some m))
 
 -- a reference
 unfoldable pub field_text : FieldRef → List ℕ

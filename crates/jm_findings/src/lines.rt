@@ -13,24 +13,6 @@ use jm_program::Class;
 use std::alloc::{AllocError, Global};
 use std::fmt::Write;
 
-// The line of a finding.
-fn line_of(
-    alloc: Global,
-    program: &[Class],
-    built_ins: &[BuiltIn],
-    finding: &Finding,
-) -> Result<String, AllocError>
-    requires { built_ins.now ≡ the_builtins }
-    ensures { IfOk result (λ text. string_bytes text ≡ finding_line program.now finding.now) }
-{
-    let line = FindingLine {
-        program,
-        built_ins,
-        finding,
-    };
-    format!(in alloc; "{line}")
-}
-
 // The lines of those of some findings that are told, each once where it comes several times in a row.
 fn lines_of(
     alloc: Global,
@@ -48,7 +30,12 @@ fn lines_of(
         if !is_told(main, finding.site) {
             continue;
         }
-        let line = line_of(alloc, program, built_ins, finding)?;
+        let line = FindingLine {
+            program,
+            built_ins,
+            finding,
+        };
+        let line = format!(in alloc; "{line}")?;
         if line == before {
             continue;
         }

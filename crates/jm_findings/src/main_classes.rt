@@ -8,23 +8,16 @@ use crate::class::is_main_class;
 use jm_program::Class;
 use std::fmt;
 
-// Writes one more class, where it declares main.
+// Writes the other classes that declare main.
 #[tactic(auto, unfolding(crate::specs::Others::also_main))]
-fn write_one_more<W: fmt::Write>(f: &mut fmt::Formatter<W>, class: &Class) -> fmt::Result
-    ensures { WritesOnOk W.write_str_gives f.old result (also_main class.now) f.new }
-{
-    if is_main_class(class) {
-        let name = &class.parts().name;
-        return write!(f, ", {name}");
-    }
-    Ok(())
-}
-
 fn write_more<W: fmt::Write>(f: &mut fmt::Formatter<W>, classes: &[Class]) -> fmt::Result
     ensures { WritesOnOk W.write_str_gives f.old result (flat_map also_main classes.now) f.new }
 {
     for class in classes {
-        write_one_more(f, class)?;
+        if is_main_class(class) {
+            let name = &class.parts().name;
+            write!(f, ", {name}")?;
+        }
     }
     Ok(())
 }

@@ -12,22 +12,8 @@ use jm_linker::LinkFault;
 use jm_program::{Class, ClassRef, Instr, Method, Name};
 use std::fmt;
 
-// Writes the type of one more method, where it has the name.
+// Writes the types of the other methods that have the name.
 #[tactic(auto, unfolding(crate::specs::Others::also_method))]
-fn write_one_more<W: fmt::Write>(
-    f: &mut fmt::Formatter<W>,
-    name: &Name,
-    method: &Method,
-) -> fmt::Result
-    ensures { WritesOnOk W.write_str_gives f.old result (also_method name.now method.now) f.new }
-{
-    if method.name == *name {
-        let descriptor = &method.descriptor;
-        return write!(f, ", {descriptor}");
-    }
-    Ok(())
-}
-
 fn write_more<W: fmt::Write>(
     f: &mut fmt::Formatter<W>,
     name: &Name,
@@ -35,8 +21,11 @@ fn write_more<W: fmt::Write>(
 ) -> fmt::Result
     ensures { WritesOnOk W.write_str_gives f.old result (flat_map (also_method name.now) methods.now) f.new }
 {
-    for method in methods {
-        write_one_more(f, name, method)?;
+    for other in methods {
+        if other.name == *name {
+            let descriptor = &other.descriptor;
+            write!(f, ", {descriptor}")?;
+        }
     }
     Ok(())
 }

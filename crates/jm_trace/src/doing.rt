@@ -1,39 +1,27 @@
 // Where a frame stands and what is next in it.
 
-ghost use Rattle.std.specs.Prelude.{◌≡◌, ◌++◌, ℕ, List, MatchOption, None, Some, OnOk, codes, option_map};
-ghost use Rattle.std.specs.Option.{option_copied};
+ghost use Rattle.std.specs.Prelude.{◌≡◌, ◌++◌, ℕ, List, MatchOption, None, Some, OnOk, option_map};
 ghost use Rattle.jm_program.specs.declared.class.ClassParts.{ClassParts};
-ghost use Rattle.jm_world.specs.Classes.{method_named};
-ghost use Rattle.jm_world.specs.Frames.{method_frame, initialization_frame, entry_frame};
 ghost use Rattle.jm_world.specs.Stepping.{instruction_in};
-ghost use Rattle.jm_machine.specs.Readers.{model_frame, model_value, name_of_frame, IsOfProgram};
-ghost use Rattle.jm_debug.specs.Texts.{frame_text, value_text};
-ghost use Rattle.jm_trace.specs.Doings.{doing_text, instruction_text, next_text, operand_text, operands_text, plain_switch, standing_text, switch_word, texts_of};
+ghost use Rattle.jm_machine.specs.Readers.{model_frame, model_value, IsOfProgram};
+ghost use Rattle.jm_debug.specs.Texts.{frame_text};
+ghost use Rattle.jm_trace.specs.Doings.{doing_text, instruction_text, next_text, operand_text, operands_text, standing_text, switch_word, texts_of};
 
-use jm_debug::text::{LineText, PlaceText, StageText, line_of};
+use jm_debug::text::{LineText, StageText, ValueText, line_of, place_of_method};
 use jm_heap::Heap;
 use jm_machine::{MethodFrame, WorldFrame, WorldValue};
-use jm_program::{Class, Instr, Method, Plain};
-use jm_world::Stage;
+use jm_program::{Instr, Method, Plain};
+use jm_blocked_threads::instruction_of;
 use std::alloc::AllocError;
 use std::fmt::Write;
 
 // The word of a switch.
-fn plain_switch(plain: &Plain) -> Option<&'static str>
-    ensures { MatchOption result (plain_switch plain.now ≡ None) (λ word. plain_switch plain.now ≡ Some word.now) }
-{
-    match plain {
-        Plain::TableSwitch(_) => Some("tableswitch"),
-        Plain::LookupSwitch(_) => Some("lookupswitch"),
-        _ => None,
-    }
-}
-
 fn switch_word(instruction: &Instr) -> Option<&'static str>
     ensures { MatchOption result (switch_word instruction.now ≡ None) (λ word. switch_word instruction.now ≡ Some word.now) }
 {
     match instruction {
-        Instr::Plain(plain) => plain_switch(plain),
+        Instr::Plain(Plain::TableSwitch(_)) => Some("tableswitch"),
+        Instr::Plain(Plain::LookupSwitch(_)) => Some("lookupswitch"),
         _ => None,
     }
 }
@@ -49,16 +37,6 @@ fn write_instruction(out: &mut String, instruction: &Instr) -> Result<(), AllocE
     }
 }
 
-// The instruction of a number in a method, if there is one.
-fn instruction_of(method: &Method, at: usize) -> Option<&Instr>
-    ensures { option_copied result ≡ instruction_in (Some method.now) at }
-{
-    match &method.code {
-        Some(code) => code.instructions.as_slice().get(at),
-        None => None,
-    }
-}
-
 // Writes what is next in a method.
 fn write_next(out: &mut String, method: &Method, at: usize) -> Result<(), AllocError>
     ensures { OnOk result (out.new.bytes.items ≡ out.old.bytes.items ++ next_text (instruction_in (Some method.now) at)) }
@@ -69,29 +47,15 @@ fn write_next(out: &mut String, method: &Method, at: usize) -> Result<(), AllocE
     }
 }
 
-// Writes a value; a reference is the number of its object.
-#[tactic(auto, unfolding(jm_debug::specs::Texts::value_text, jm_debug::specs::Texts::reference_text))]
-fn write_value(out: &mut String, value: WorldValue) -> Result<(), AllocError>
-    ensures { OnOk result (out.new.bytes.items ≡ out.old.bytes.items ++ value_text (model_value value)) }
-{
-    match value {
-        WorldValue::Int(number) => write!(out, "int {number}"),
-        WorldValue::Long(number) => write!(out, "long {number}"),
-        WorldValue::Null => out.push_str("null"),
-        WorldValue::Ref(number) => write!(out, "#{number}"),
-    }
-}
-
-// Writes an operand, if there is one.
+// Writes an operand, if there is one; a reference is the number of its object.
 fn write_operand(out: &mut String, operand: Option<WorldValue>) -> Result<(), AllocError>
     ensures { (number : ℕ) → OnOk result (out.new.bytes.items ≡ out.old.bytes.items ++ texts_of operand_text number (option_map model_value operand)) }
 {
     let Some(value) = operand else {
         return Ok(());
     };
-    out.push_str(" [")?;
-    write_value(out, value)?;
-    out.push_str("]")
+    let value = ValueText(value);
+    write!(out, " [{value}]")
 }
 
 /// Writes the operands of a method's frame, the lowest first, if there are any. `AllocError`: a growth was refused.
@@ -108,84 +72,40 @@ pub fn write_operands<H: Heap>(
     Ok(())
 }
 
-// Writes the instruction of a method's frame, and its operands.
-fn write_method_doing<H: Heap>(
-    out: &mut String,
-    frame: &MethodFrame<'_, H>,
-) -> Result<(), AllocError>
-    ensures { (program : List ClassParts) → method_named program (name_of_frame frame.now) ≡ Some frame.now.method
-        → OnOk result (out.new.bytes.items ≡ out.old.bytes.items
-        ++ doing_text program (method_frame (name_of_frame frame.now) frame.now.activation frame.now.monitor)) }
-{
-    out.push_str(": ")?;
-    write_next(out, frame.method(), frame.at())?;
-    write_operands(out, frame)
-}
-
-// Writes what is next in a frame, where its place does not say it.
+// Writes what is next in a frame, where its place does not say it: of a method the instruction, and the operands.
 fn write_doing<H: Heap>(out: &mut String, frame: &WorldFrame<'_, H>) -> Result<(), AllocError>
     ensures { (program : List ClassParts) → IsOfProgram program frame.now
         → OnOk result (out.new.bytes.items ≡ out.old.bytes.items ++ doing_text program (model_frame frame.now)) }
 {
     match frame {
-        WorldFrame::Method(frame) => write_method_doing(out, frame),
-        WorldFrame::Initialization { .. } => Ok(()),
-        WorldFrame::Entry => Ok(()),
+        WorldFrame::Method(frame) => {
+            out.push_str(": ")?;
+            write_next(out, frame.method(), frame.at())?;
+            write_operands(out, frame)
+        }
+        WorldFrame::Initialization { .. } | WorldFrame::Entry => Ok(()),
     }
 }
 
-// Writes where a method's frame stands, with the line of the source if it is known.
+/// Writes where a frame stands, with no line feed: of a method with the line of the source, if it is known. `AllocError`:
+/// a growth was refused; a part of it may stand there then.
 #[tactic(auto, using(crate::proofs::FramesTold::method_place), unfolding(jm_debug::specs::Texts::frame_text))]
-fn write_method_place<H: Heap>(
-    out: &mut String,
-    frame: &MethodFrame<'_, H>,
-) -> Result<(), AllocError>
-    ensures { (program : List ClassParts) → method_named program (name_of_frame frame.now) ≡ Some frame.now.method
-        → OnOk result (out.new.bytes.items ≡ out.old.bytes.items
-        ++ frame_text program (method_frame (name_of_frame frame.now) frame.now.activation frame.now.monitor)) }
-{
-    let class = frame.class();
-    let method = frame.method();
-    let instruction = frame.at() as u64;
-    let place = PlaceText {
-        class: &class.parts().name,
-        method: &method.name,
-        descriptor: &method.descriptor,
-        instruction,
-    };
-    let line = LineText(line_of(method, instruction));
-    write!(out, "{place}{line}")
-}
-
-// Writes where the initialization of a class stands.
-#[tactic(auto, unfolding(jm_debug::specs::Texts::frame_text))]
-fn write_initialization(out: &mut String, class: &Class, stage: Stage) -> Result<(), AllocError>
-    ensures { (program : List ClassParts) → OnOk result (out.new.bytes.items
-        ≡ out.old.bytes.items ++ frame_text program (initialization_frame class.now.name stage)) }
-{
-    let class = &class.parts().name;
-    let stage = StageText(stage);
-    write!(out, "init {class} {stage}")
-}
-
-// Writes that a thread has not begun.
-#[tactic(auto, unfolding(jm_debug::specs::Texts::frame_text))]
-fn write_entry(out: &mut String) -> Result<(), AllocError>
-    ensures { (program : List ClassParts) → OnOk result (out.new.bytes.items ≡ out.old.bytes.items ++ frame_text program entry_frame) }
-{
-    out.push_str("entry")
-}
-
-/// Writes where a frame stands, with no line feed. `AllocError`: a growth was refused; a part of it may stand there
-/// then.
 pub fn write_place<H: Heap>(out: &mut String, frame: &WorldFrame<'_, H>) -> Result<(), AllocError>
     ensures { (program : List ClassParts) → IsOfProgram program frame.now
         → OnOk result (out.new.bytes.items ≡ out.old.bytes.items ++ frame_text program (model_frame frame.now)) }
 {
     match frame {
-        WorldFrame::Method(frame) => write_method_place(out, frame),
-        WorldFrame::Initialization { class, stage } => write_initialization(out, class, *stage),
-        WorldFrame::Entry => write_entry(out),
+        WorldFrame::Method(frame) => {
+            let place = place_of_method(frame);
+            let line = LineText(line_of(frame.method(), frame.at() as u64));
+            write!(out, "{place}{line}")
+        }
+        WorldFrame::Initialization { class, stage } => {
+            let class = &class.parts().name;
+            let stage = StageText(*stage);
+            write!(out, "init {class} {stage}")
+        }
+        WorldFrame::Entry => out.push_str("entry"),
     }
 }
 

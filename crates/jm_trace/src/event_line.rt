@@ -1,13 +1,12 @@
 // The line of an event.
 
-ghost use Rattle.std.specs.Prelude.{◌≡◌, ◌++◌, MatchOption, None, OnOk, Some};
+ghost use Rattle.std.specs.Prelude.{◌≡◌, ◌++◌, OnOk};
 ghost use Rattle.jm_world.specs.World.{World, thread_at};
-ghost use Rattle.jm_world.specs.declared.event.Event.TheVariants.{Step};
-ghost use Rattle.jm_machine.specs.Readers.{frame_at, pending_of};
+ghost use Rattle.jm_machine.specs.Readers.{frame_at};
 ghost use Rattle.jm_machine.specs.View.{MatchesWorld};
 ghost use Rattle.jm_debug.specs.Texts.{reference_text};
 ghost use Rattle.jm_debug.specs.Views.{object_text};
-ghost use Rattle.jm_trace.specs.EventLines.{event_part, line_before, line_behind, place_part, running_part, standing_part, thread_part, thrown_text};
+ghost use Rattle.jm_trace.specs.EventLines.{event_part, line_before, line_behind, place_part, standing_part, thread_part, thrown_text};
 
 use crate::doing::{write_place, write_standing};
 use jm_debug::text::KindText;
@@ -18,16 +17,8 @@ use jm_world::{Event, ReplyKind};
 use std::alloc::{AllocError, Global};
 use std::fmt::Write;
 
-// Writes the number of an object.
-#[tactic(auto, unfolding(jm_debug::specs::Texts::reference_text))]
-fn write_reference(out: &mut String, number: u64) -> Result<(), AllocError>
-    ensures { OnOk result (out.new.bytes.items ≡ out.old.bytes.items ++ reference_text number) }
-{
-    write!(out, "#{number}")
-}
-
 // Writes the number of an object, and its class.
-#[tactic(auto, unfolding(jm_debug::specs::Views::object_text))]
+#[tactic(auto, unfolding(jm_debug::specs::Views::object_text, jm_debug::specs::Texts::reference_text))]
 fn write_object<H: Heap>(
     alloc: Global,
     out: &mut String,
@@ -36,9 +27,16 @@ fn write_object<H: Heap>(
 ) -> Result<(), AllocError>
     ensures { OnOk result (out.new.bytes.items ≡ out.old.bytes.items ++ object_text number object.now.object) }
 {
-    write_reference(out, number)?;
-    out.push_str(" ")?;
+    write!(out, "#{number} ")?;
     write_type(alloc, out, object.kind())
+}
+
+// Writes the number of an object.
+#[tactic(auto, unfolding(jm_debug::specs::Texts::reference_text))]
+fn write_reference(out: &mut String, number: u64) -> Result<(), AllocError>
+    ensures { OnOk result (out.new.bytes.items ≡ out.old.bytes.items ++ reference_text number) }
+{
+    write!(out, "#{number}")
 }
 
 /// Writes an object that is thrown: its number, and its class where it is reachable. `AllocError`: a growth was refused;
@@ -90,39 +88,7 @@ fn write_standing_part<H: Heap>(
     write_standing(out, &frame)
 }
 
-// Writes a stage of unwinding, by the exception that is pending.
-fn write_unwinding<H: Heap>(
-    alloc: Global,
-    out: &mut String,
-    machine: &Machine<H>,
-    thread: u64,
-    pending: u64,
-) -> Result<(), AllocError>
-    ensures { (w : World) → MatchesWorld machine.now w
-        → OnOk result (out.new.bytes.items ≡ out.old.bytes.items ++ running_part w (frame_at (thread_at w thread) 0) (Some pending)) }
-{
-    write_place_part(out, machine, thread)?;
-    out.push_str(": unwind ")?;
-    write_thrown(alloc, out, machine, pending)
-}
-
-// Writes what is next of a thread that has not ended.
-fn write_running<H: Heap>(
-    alloc: Global,
-    out: &mut String,
-    machine: &Machine<H>,
-    thread: u64,
-) -> Result<(), AllocError>
-    ensures { (w : World) → MatchesWorld machine.now w
-        → OnOk result (out.new.bytes.items ≡ out.old.bytes.items ++ running_part w (frame_at (thread_at w thread) 0) (pending_of (thread_at w thread))) }
-{
-    match machine.pending(thread) {
-        Some(pending) => write_unwinding(alloc, out, machine, thread, pending),
-        None => write_standing_part(out, machine, thread),
-    }
-}
-
-// Writes what is next of a thread.
+// Writes what is next of a thread, unless it has ended: a stage of unwinding where an exception is pending.
 fn write_thread<H: Heap>(
     alloc: Global,
     out: &mut String,
@@ -131,27 +97,20 @@ fn write_thread<H: Heap>(
 ) -> Result<(), AllocError>
     ensures { (w : World) → MatchesWorld machine.now w → OnOk result (out.new.bytes.items ≡ out.old.bytes.items ++ thread_part w thread) }
 {
-    if machine.is_live(thread) {
-        write_running(alloc, out, machine, thread)
-    } else {
-        Ok(())
+    if !machine.is_live(thread) {
+        return Ok(());
+    }
+    match machine.pending(thread) {
+        Some(pending) => {
+            write_place_part(out, machine, thread)?;
+            out.push_str(": unwind ")?;
+            write_thrown(alloc, out, machine, pending)
+        }
+        None => write_standing_part(out, machine, thread),
     }
 }
 
-// Writes a thread, and what is next of it.
-fn write_step<H: Heap>(
-    alloc: Global,
-    out: &mut String,
-    machine: &Machine<H>,
-    thread: u64,
-) -> Result<(), AllocError>
-    ensures { (w : World) → MatchesWorld machine.now w → OnOk result (out.new.bytes.items ≡ out.old.bytes.items ++ event_part w (Step thread)) }
-{
-    write!(out, "t{thread}")?;
-    write_thread(alloc, out, machine, thread)
-}
-
-// Writes what an event is.
+// Writes what an event is: a thread and what is next of it, or a collection.
 fn write_event<H: Heap>(
     alloc: Global,
     out: &mut String,
@@ -161,7 +120,10 @@ fn write_event<H: Heap>(
     ensures { (w : World) → MatchesWorld machine.now w → OnOk result (out.new.bytes.items ≡ out.old.bytes.items ++ event_part w event) }
 {
     match event {
-        Event::Step(thread) => write_step(alloc, out, machine, thread),
+        Event::Step(thread) => {
+            write!(out, "t{thread}")?;
+            write_thread(alloc, out, machine, thread)
+        }
         Event::Minor => out.push_str("minor"),
         Event::Full => out.push_str("full"),
     }

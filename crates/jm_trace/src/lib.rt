@@ -8,7 +8,7 @@
 //! from a machine's world on and writes the lines of those that are [`Shown`] into a writer of pieces (`jm_page`): what
 //! stands there is the fold over the run's events.
 //!
-//! The crate stands on `jm_machine`, `jm_debug`, `jm_page` and `jm_events`.
+//! The crate stands on `jm_machine`, `jm_debug`, `jm_page`, `jm_events` and `jm_blocked_threads`.
 #![tactic(auto)]
 
 mod doing;

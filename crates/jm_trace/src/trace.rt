@@ -1,6 +1,6 @@
 // The lines of a run, written as its events are made.
 
-ghost use Rattle.std.specs.Prelude.{◌≡◌, ◌++◌, ◌-◌, [], IfOk, OnOk, if◌then◌else◌};
+ghost use Rattle.std.specs.Prelude.{◌≡◌, ◌-◌, [], IfOk, OnOk, if◌then◌else◌};
 ghost use Rattle.jm_world.specs.RoundRobin.{is_blocked};
 ghost use Rattle.jm_world.specs.Run.{after, run_from};
 ghost use Rattle.jm_world.specs.World.{World};
@@ -15,21 +15,9 @@ use jm_events::EventsDue;
 use jm_heap::Heap;
 use jm_machine::Machine;
 use jm_page::{PageFault, PageWriter};
-use jm_world::{Event, Reply, ReplyKind};
+use jm_blocked_threads::is_blocked;
+use jm_world::{Event, Reply};
 use std::alloc::{AllocError, Global};
-
-// Whether an event was blocked.
-fn is_blocked(kind: ReplyKind) -> bool
-    ensures { result ≡ is_blocked kind }
-{
-    match kind {
-        ReplyKind::Blocked => true,
-        ReplyKind::Done => false,
-        ReplyKind::Ended => false,
-        ReplyKind::None => false,
-        ReplyKind::Stopped => false,
-    }
-}
 
 // Makes an event.
 fn make<H: Heap>(machine: &mut Machine<H>, event: Event) -> Result<Reply, AllocError>
@@ -39,24 +27,6 @@ fn make<H: Heap>(machine: &mut Machine<H>, event: Event) -> Result<Reply, AllocE
         Ok(reply) => Ok(reply),
         Err(_) => Err(AllocError),
     }
-}
-
-// Makes an event, and writes its line.
-fn make_line<H: Heap>(
-    alloc: Global,
-    out: &mut String,
-    machine: &mut Machine<H>,
-    number: u64,
-    event: Event,
-) -> Result<Reply, AllocError>
-    ensures made { (w : World) → MatchesWorld machine.old w → IfOk result (λ reply. MatchesWorld machine.new (after w event).world × (reply ≡ (after w event).reply)) }
-    ensures written { (w : World) → MatchesWorld machine.old w
-        → OnOk result (out.new.bytes.items ≡ out.old.bytes.items ++ event_line number w event (after w event).reply.kind) }
-{
-    write_before(alloc, out, machine, number, event)?;
-    let reply = make(machine, event)?;
-    write_behind(out, reply.kind)?;
-    Ok(reply)
 }
 
 // Makes an event, and gives its line if it is shown.
@@ -73,21 +43,13 @@ fn make_told<H: Heap>(
 {
     let mut line = String::new(alloc);
     if shown {
-        let reply = make_line(alloc, &mut line, machine, number, event)?;
+        write_before(alloc, &mut line, machine, number, event)?;
+        let reply = make(machine, event)?;
+        write_behind(&mut line, reply.kind)?;
         Ok((reply, line))
     } else {
         let reply = make(machine, event)?;
         Ok((reply, line))
-    }
-}
-
-// Writes a line.
-fn put_line<P: PageWriter>(line: &str, page: &mut P) -> Result<(), PageFault>
-    ensures { Puts P.wrote P.broke result page.old line.now page.new }
-{
-    match page.put(line.as_bytes()) {
-        Ok(()) => Ok(()),
-        Err(_) => Err(PageFault::WriteFailed),
     }
 }
 
@@ -106,12 +68,13 @@ fn put_told<H: Heap, S: EventsDue, P: PageWriter>(
     ensures made { (w : World) → MatchesWorld machine.old w → OnOk result (MatchesWorld machine.new (after w event).world) }
     ensures seen { (w : World) → MatchesWorld machine.old w → OnOk result (events.new ≡ S.seen events.old (is_blocked (after w event).reply.kind)) }
 {
-    match make_told(alloc, machine, number, event, shown) {
-        Ok((reply, line)) => {
-            events.see(is_blocked(reply.kind));
-            put_line(line.as_str(), page)
-        }
-        Err(_) => Err(PageFault::OutOfMemory),
+    let Ok((reply, line)) = make_told(alloc, machine, number, event, shown) else {
+        return Err(PageFault::OutOfMemory);
+    };
+    events.see(is_blocked(reply.kind));
+    match page.put(line.as_str().as_bytes()) {
+        Ok(()) => Ok(()),
+        Err(_) => Err(PageFault::WriteFailed),
     }
 }
 
@@ -133,16 +96,20 @@ pub fn write_trace<H: Heap, S: EventsDue, P: PageWriter>(
     shown: Shown,
     page: &mut P,
 ) -> Result<(), PageFault>
-    ensures written { (w : World) → MatchesWorld machine.old w → Puts P.wrote P.broke result page.old (trace shown w (S.due events.old w)) page.new }
-    ensures made { (w : World) → MatchesWorld machine.old w → OnOk result (MatchesWorld machine.new (run_from w (S.due events.old w))) }
+    ensures written { (w : World) → MatchesWorld machine.old w → S.knows events.old w
+        → Puts P.wrote P.broke result page.old (trace shown w (S.due events.old w)) page.new }
+    ensures made { (w : World) → MatchesWorld machine.old w → S.knows events.old w → OnOk result (MatchesWorld machine.new (run_from w (S.due events.old w))) }
 {
     let mut left = shown.most;
     for number in 1..u64::MAX {
-        let Some(event) = events.next(machine) else {
+        let Ok(next) = events.next(machine) else {
+            return Err(PageFault::OutOfMemory);
+        };
+        let Some(due) = next else {
             return Ok(());
         };
-        let told = is_shown(shown, number, left, event);
-        put_told(alloc, machine, events, number, event, told, page)?;
+        let told = is_shown(shown, number, left, due.event);
+        put_told(alloc, machine, events, number, due.event, told, page)?;
         left = left_behind(left, told);
     }
     Err(PageFault::OutOfMemory)

@@ -1,4 +1,3 @@
 pub mod Threads
 pub mod Watched
 pub mod WaitsOf
-pub mod Joined

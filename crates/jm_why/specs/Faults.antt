@@ -15,21 +15,17 @@ use Rattle.jm_world.specs.Frames.{Frame, method_frame, initialization_frame, ent
 use Rattle.jm_world.specs.Stepping.{instruction_in}
 use Rattle.jm_world.specs.World.{World}
 use Rattle.jm_debug.specs.Texts.{value_text}
-use Rattle.jm_needs.specs.Locals.{local_of}
-use Rattle.jm_needs.specs.Needs.{needs}
 use Rattle.jm_trace.specs.Doings.{operands_text}
+use Rattle.jm_why.specs.Locals.{local_of}
+use Rattle.jm_why.specs.Needs.{needs}
 
 -- ---- what was found
-
--- a local variable with its value
-unfoldable pub set_local_text : ℕ → Value → List ℕ
-set_local_text n v = codes ", local variable " ++ (decimal n ++ codes " is ") ++ value_text v
 
 -- a local variable: there is none of that number, it is not set, or its value
 abbrev pub local_text : ℕ → Option (Option Value) → List ℕ
 local_text n None = codes ", no local variable " ++ (decimal n ++ codes " (.limit locals)")
 local_text n (Some None) = codes ", local variable " ++ (decimal n ++ codes " not set")
-local_text n (Some (Some v)) = set_local_text n v
+local_text n (Some (Some v)) = codes ", local variable " ++ (decimal n ++ (codes " is " ++ value_text v))
 
 -- the one that an instruction names, if it names one
 abbrev pub found_local : List (Option Value) → Option ℕ → List ℕ

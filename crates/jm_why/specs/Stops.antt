@@ -1,31 +1,23 @@
 -- What stopped a run.
 use Rattle.std.specs.Prelude.{ℕ, ◌-◌, List, [], ◌++◌, Option, Some, None, codes}
 use Rattle.std.specs.Fmt.{decimal}
-use Rattle.jm_values.specs.FaultNames.{fault_name}
 use Rattle.jm_world.specs.World.{World, Thread, reach_cells, thread_at}
 use Rattle.jm_world.specs.declared.event.Event.{Event}
 use Rattle.jm_world.specs.declared.event.Event.TheVariants.{Step, Minor, Full}
 use Rattle.jm_world.specs.declared.stop.Stop.{Stop}
 use Rattle.jm_world.specs.declared.stop.Stop.TheVariants.{TagFault, HeapFull, SerialsEnd}
+use Rattle.jm_machine.specs.EndTexts.{stop_text}
 use Rattle.jm_machine.specs.Readers.{frame_at}
 use Rattle.jm_why.specs.Faults.{wanted_in}
 use Rattle.jm_why.specs.Kept.{frames_text}
 use Rattle.jm_why.specs.declared.kept.Stopped.{Stopped}
 
--- a stop by its number and name
-abbrev pub stop_text : Stop → List ℕ
-stop_text (TagFault fault) = codes "60 TagFault(" ++ (fault_name fault ++ codes ")")
-stop_text HeapFull = codes "62 HeapFull"
-stop_text SerialsEnd = codes "64 SerialsEnd"
-
 -- ---- what was found and wanted
 
 -- the heap is full: how many of its cells are reachable, how many are left, and how it gets more
-unfoldable pub full_line : ℕ → ℕ → ℕ → List ℕ
-full_line cells limit left = codes "found " ++ (decimal cells ++ (codes " of " ++ (decimal limit ++ (codes " cells reachable\nwanted more than the " ++ (decimal left ++ codes " that are left: --heap N\n")))))
-
-abbrev pub full_text : ℕ → ℕ → List ℕ
-full_text cells limit = full_line cells limit (limit - cells)
+unfoldable pub full_text : ℕ → ℕ → List ℕ
+full_text cells limit =
+    codes "found " ++ (decimal cells ++ (codes " of " ++ (decimal limit ++ (codes " cells reachable\nwanted more than the " ++ (decimal (limit - cells) ++ codes " that are left: --heap N\n")))))
 
 abbrev pub wanted_text : World → Stop → Option Thread → List ℕ
 wanted_text w (TagFault fault) t = wanted_in w fault (frame_at t 0) (frame_at t 1)

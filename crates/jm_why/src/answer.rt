@@ -1,12 +1,11 @@
 // What is said of how a run ended.
 
 ghost use Rattle.std.specs.Prelude.{◌≡◌, ◌++◌, OnOk, Some};
-ghost use Rattle.std.specs.Option.{option_copied};
-ghost use Rattle.jm_world.specs.World.{World, Thread, live_among, thread_at};
+ghost use Rattle.jm_world.specs.World.{World, Thread, thread_at};
 ghost use Rattle.jm_machine.specs.Threads.{class_of_ending};
 ghost use Rattle.jm_machine.specs.View.{MatchesWorld};
 ghost use Rattle.jm_trace.specs.Doings.{texts_from};
-ghost use Rattle.jm_why.specs.Answers.{answer, ended_line, ended_text, ended_thread, last_part, not_ended};
+ghost use Rattle.jm_why.specs.Answers.{answer, ended_text, ended_thread, last_part};
 
 use crate::kept::Kept;
 use crate::live::{write_limit, write_lives};
@@ -18,40 +17,8 @@ use jm_program::Name;
 use std::alloc::{AllocError, Global};
 use std::fmt::Write;
 
-// Writes that an exception of a class has ended a thread.
-#[tactic(auto, unfolding(crate::specs::Answers::ended_line))]
-fn write_ended_line(
-    alloc: Global,
-    out: &mut String,
-    thread: u64,
-    class: &[u16],
-) -> Result<(), AllocError>
-    ensures { OnOk result (out.new.bytes.items ≡ out.old.bytes.items ++ ended_line thread class.now) }
-{
-    let class = Name::shared(alloc, class)?;
-    write!(out, "t{thread} ended by {class}\n")
-}
-
 // Writes by what exception a thread has ended, if by one, and its throws.
-fn write_ended_by(
-    alloc: Global,
-    out: &mut String,
-    throws: &[Throw],
-    thread: u64,
-    class: Option<&[u16]>,
-) -> Result<(), AllocError>
-    ensures { OnOk result (out.new.bytes.items ≡ out.old.bytes.items ++ ended_text throws.now thread (option_copied class.entry)) }
-{
-    match class {
-        Some(class) => {
-            write_ended_line(alloc, out, thread, class)?;
-            write_throws_of(out, throws, thread)
-        }
-        None => Ok(()),
-    }
-}
-
-// Writes a thread, if an exception has ended it.
+#[tactic(auto, unfolding(crate::specs::Answers::ended_line))]
 fn write_ended<H: Heap>(
     alloc: Global,
     out: &mut String,
@@ -62,7 +29,12 @@ fn write_ended<H: Heap>(
     ensures { (w : World) (t : Thread) → MatchesWorld machine.now w → thread_at w thread ≡ Some t
         → OnOk result (out.new.bytes.items ≡ out.old.bytes.items ++ ended_text throws.now thread (class_of_ending t.ending)) }
 {
-    write_ended_by(alloc, out, throws, thread, machine.ended_by(thread))
+    let Some(class) = machine.ended_by(thread) else {
+        return Ok(());
+    };
+    let class = Name::shared(alloc, class)?;
+    write!(out, "t{thread} ended by {class}\n")?;
+    write_throws_of(out, throws, thread)
 }
 
 // Writes the threads that an exception has ended.
@@ -81,25 +53,7 @@ fn write_ends<H: Heap>(
     Ok(())
 }
 
-// Writes of a run without a stop the threads that have not ended, if any.
-fn write_not_ended<H: Heap>(
-    out: &mut String,
-    machine: &Machine<H>,
-    limit: Option<u64>,
-    kept: &Kept,
-) -> Result<(), AllocError>
-    ensures { (w : World) → MatchesWorld machine.now w
-        → OnOk result (out.new.bytes.items ≡ out.old.bytes.items ++ not_ended limit w kept.now (live_among w.threads)) }
-{
-    if machine.live() == 0 {
-        out.push_str("all threads have ended\n")
-    } else {
-        write_limit(out, limit, kept.made)?;
-        write_lives(out, machine, &kept.waiting)
-    }
-}
-
-// Writes the stop, or else the threads that have not ended.
+// Writes the stop, or else the threads that have not ended, if any.
 fn write_last<H: Heap>(
     out: &mut String,
     machine: &Machine<H>,
@@ -109,10 +63,14 @@ fn write_last<H: Heap>(
     ensures { (w : World) → MatchesWorld machine.now w
         → OnOk result (out.new.bytes.items ≡ out.old.bytes.items ++ last_part limit w kept.now w.stop) }
 {
-    match machine.stop() {
-        Some(stop) => write_stopped(out, machine, stop, kept.stopped),
-        None => write_not_ended(out, machine, limit, kept),
+    if let Some(stop) = machine.stop() {
+        return write_stopped(out, machine, stop, kept.stopped);
     }
+    if machine.live() == 0 {
+        return out.push_str("all threads have ended\n");
+    }
+    write_limit(out, limit, kept.made)?;
+    write_lives(out, machine, &kept.waiting)
 }
 
 /// Writes how a run ended: each thread that an exception has ended, with the frames at its throw; and then the stop, with

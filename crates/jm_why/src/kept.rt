@@ -1,7 +1,6 @@
 // What is kept of the events of a run.
 
 ghost use Rattle.std.specs.Prelude.{◌≡◌, IfOk, OnOk};
-ghost use Rattle.jm_world.specs.RoundRobin.{is_stopped};
 ghost use Rattle.jm_world.specs.Run.{after};
 ghost use Rattle.jm_world.specs.World.{World};
 ghost use Rattle.jm_machine.specs.View.{MatchesWorld};
@@ -41,18 +40,6 @@ impl Model for Kept {
     ghost view = { λ k. record { made = k.made; stopped = k.stopped; waiting = k.waiting.items; throws = k.throws.items } };
 }
 
-fn is_stopped(kind: ReplyKind) -> bool
-    ensures { result ≡ is_stopped kind }
-{
-    match kind {
-        ReplyKind::Stopped => true,
-        ReplyKind::Blocked => false,
-        ReplyKind::Done => false,
-        ReplyKind::Ended => false,
-        ReplyKind::None => false,
-    }
-}
-
 // The first event that stopped, behind one more.
 fn stopped_behind(
     stopped: Option<Stopped>,
@@ -64,13 +51,10 @@ fn stopped_behind(
 {
     match stopped {
         Some(first) => Some(first),
-        None => {
-            if is_stopped(kind) {
-                Some(Stopped { number, event })
-            } else {
-                None
-            }
-        }
+        None => match kind {
+            ReplyKind::Stopped => Some(Stopped { number, event }),
+            ReplyKind::Blocked | ReplyKind::Done | ReplyKind::Ended | ReplyKind::None => None,
+        },
     }
 }
 

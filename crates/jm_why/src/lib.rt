@@ -1,13 +1,15 @@
 //! How a run ended, and where.
 //!
 //! Of each thread that an exception has ended the event that threw it is told, and the frames at its throw; of a stop
-//! the thread, its frames, what was found and what was wanted (`jm_needs`); of threads that have not ended which monitors
-//! they hold, what they wait for, and where they stand, and why no more events were made. What is told is a definition
-//! over worlds (`specs/`): over the last world of the run, and over what is kept of its events ([`Kept`]), a fold. A frame
-//! is told as in a trace (`jm_trace`). [`watch`] makes the events that are due (`jm_events`) and keeps that; [`write_answer`]
-//! writes the text, and [`write_why`] does both into a writer of pieces (`jm_page`).
+//! the thread, its frames, what was found and what was wanted; of threads that have not ended which monitors they hold, what
+//! they wait for, and where they stand, and why no more events were made. What an instruction takes is said in words
+//! (`specs/Needs`): `iadd` takes `int, int`, `aload 3` a `reference in local variable 3`, `getfield` the class that it names.
 //!
-//! The crate stands on `jm_machine`, `jm_debug`, `jm_page`, `jm_events`, `jm_needs`, `jm_trace` and `jm_blocked_threads`.
+//! What is told is a definition over worlds (`specs/`): over the last world of the run, and over what is kept of its events
+//! ([`Kept`]), a fold. A frame is told as in a trace (`jm_trace`). [`watch`] makes the events that are due (`jm_events`) and
+//! keeps that; [`write_answer`] writes the text, and [`write_why`] does both into a writer of pieces (`jm_page`).
+//!
+//! The crate stands on `jm_machine`, `jm_debug`, `jm_page`, `jm_events`, `jm_trace` and `jm_blocked_threads`.
 #![tactic(auto)]
 
 mod answer;
@@ -16,6 +18,8 @@ mod frames;
 mod kept;
 mod laws;
 mod live;
+mod locals;
+mod needs;
 mod reason;
 mod stops;
 mod throws;

@@ -22,23 +22,13 @@ fn reason<H: Heap, S: EventsDue>(
     events: &mut S,
     limit: Option<u64>,
 ) -> Result<String, AllocError>
-    ensures text { (w : World) → MatchesWorld machine.old w → IfOk result (λ text. text.bytes.items ≡ why limit w (S.due events.old w)) }
-    ensures made { (w : World) → MatchesWorld machine.old w → IfOk result (λ text. MatchesWorld machine.new (run_from w (S.due events.old w))) }
+    ensures text { (w : World) → MatchesWorld machine.old w → S.knows events.old w → IfOk result (λ text. text.bytes.items ≡ why limit w (S.due events.old w)) }
+    ensures made { (w : World) → MatchesWorld machine.old w → S.knows events.old w → IfOk result (λ text. MatchesWorld machine.new (run_from w (S.due events.old w))) }
 {
     let kept = watch(alloc, machine, events)?;
     let mut text = String::new(alloc);
     write_answer(alloc, &mut text, machine, limit, &kept)?;
     Ok(text)
-}
-
-// Writes a text.
-fn put_text<P: PageWriter>(text: &str, page: &mut P) -> Result<(), PageFault>
-    ensures { Puts P.wrote P.broke result page.old text.now page.new }
-{
-    match page.put(text.as_bytes()) {
-        Ok(()) => Ok(()),
-        Err(_) => Err(PageFault::WriteFailed),
-    }
 }
 
 /// Makes the events that are due from a machine's world on, and then writes how the run ended. A limit is that of the
@@ -51,11 +41,14 @@ pub fn write_why<H: Heap, S: EventsDue, P: PageWriter>(
     limit: Option<u64>,
     page: &mut P,
 ) -> Result<(), PageFault>
-    ensures written { (w : World) → MatchesWorld machine.old w → Puts P.wrote P.broke result page.old (why limit w (S.due events.old w)) page.new }
-    ensures made { (w : World) → MatchesWorld machine.old w → OnOk result (MatchesWorld machine.new (run_from w (S.due events.old w))) }
+    ensures written { (w : World) → MatchesWorld machine.old w → S.knows events.old w → Puts P.wrote P.broke result page.old (why limit w (S.due events.old w)) page.new }
+    ensures made { (w : World) → MatchesWorld machine.old w → S.knows events.old w → OnOk result (MatchesWorld machine.new (run_from w (S.due events.old w))) }
 {
-    match reason(alloc, machine, events, limit) {
-        Ok(text) => put_text(text.as_str(), page),
-        Err(_) => Err(PageFault::OutOfMemory),
+    let Ok(text) = reason(alloc, machine, events, limit) else {
+        return Err(PageFault::OutOfMemory);
+    };
+    match page.put(text.as_str().as_bytes()) {
+        Ok(()) => Ok(()),
+        Err(_) => Err(PageFault::WriteFailed),
     }
 }

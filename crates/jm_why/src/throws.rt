@@ -1,11 +1,10 @@
 // Throws of exceptions, of each thread those since it had none pending.
 
-ghost use Rattle.std.specs.Prelude.{◌≡◌, ◌++◌, ◌∷◌, [], IfOk, OnOk, Some, nat_eq};
-ghost use Rattle.std.specs.List.{filter};
+ghost use Rattle.std.specs.Prelude.{◌≡◌, ◌++◌, IfOk, OnOk};
 ghost use Rattle.jm_world.specs.World.{World};
 ghost use Rattle.jm_machine.specs.View.{MatchesWorld};
-ghost use Rattle.jm_why.specs.Answers.{throw_by, throws_of};
-ghost use Rattle.jm_why.specs.Kept.{beside, is_of_other, newly, pending_before, throw_text, throws_behind, throws_with};
+ghost use Rattle.jm_why.specs.Answers.{throws_of};
+ghost use Rattle.jm_why.specs.Kept.{beside, newly, pending_before, throw_text, throws_behind};
 
 use crate::frames::write_frames;
 use jm_heap::Heap;
@@ -38,8 +37,7 @@ pub fn pending_before<H: Heap>(machine: &Machine<H>, event: Event) -> Option<u64
 {
     match event {
         Event::Step(thread) => machine.pending(thread),
-        Event::Minor => None,
-        Event::Full => None,
+        Event::Minor | Event::Full => None,
     }
 }
 
@@ -47,46 +45,15 @@ pub fn pending_before<H: Heap>(machine: &Machine<H>, event: Event) -> Option<u64
 fn newly(before: Option<u64>, behind: Option<u64>) -> Option<u64>
     ensures { result ≡ newly before behind }
 {
-    match behind {
-        Some(thrown) => newly_thrown(before, thrown),
-        None => None,
-    }
-}
-
-fn newly_thrown(before: Option<u64>, thrown: u64) -> Option<u64>
-    ensures { result ≡ newly before (Some thrown) }
-{
+    let thrown = behind?;
     match before {
-        Some(pending) => {
-            if pending == thrown {
-                None
-            } else {
-                Some(thrown)
-            }
-        }
-        None => Some(thrown),
+        Some(pending) if pending == thrown => None,
+        _ => Some(thrown),
     }
 }
 
 // What is told of a throw by the event of a number, in the world behind it.
 #[tactic(auto, unfolding(crate::specs::Kept::throw_text))]
-fn write_throw<H: Heap>(
-    alloc: Global,
-    out: &mut String,
-    machine: &Machine<H>,
-    number: u64,
-    thread: u64,
-    thrown: u64,
-) -> Result<(), AllocError>
-    ensures { (w : World) → MatchesWorld machine.now w
-        → OnOk result (out.new.bytes.items ≡ out.old.bytes.items ++ throw_text number w thread thrown) }
-{
-    write!(out, "event {number} throws ")?;
-    write_thrown(alloc, out, machine, thrown)?;
-    out.push_str("\n")?;
-    write_frames(out, machine, thread)
-}
-
 fn throw_of_thread<H: Heap>(
     alloc: Global,
     machine: &Machine<H>,
@@ -98,21 +65,11 @@ fn throw_of_thread<H: Heap>(
         → IfOk result (λ t. t ≡ record { thread = thread; text = throw_text number w thread thrown }) }
 {
     let mut text = String::new(alloc);
-    write_throw(alloc, &mut text, machine, number, thread, thrown)?;
+    write!(text, "event {number} throws ")?;
+    write_thrown(alloc, &mut text, machine, thrown)?;
+    text.push_str("\n")?;
+    write_frames(&mut text, machine, thread)?;
     Ok(Throw { thread, text })
-}
-
-fn is_same(other: &Throw, thread: u64) -> bool
-    ensures { result ≡ nat_eq other.now.thread thread }
-{
-    other.thread == thread
-}
-
-// Takes the throws of a thread away.
-fn take_away(throws: &mut Vec<Throw>, thread: u64)
-    ensures { throws.new.items ≡ filter (is_of_other thread) throws.old.items }
-{
-    throws.retain(|other| !is_same(other, thread));
 }
 
 // Takes the throws of a thread away, unless a new one comes of the last of them.
@@ -121,43 +78,7 @@ fn leave_beside(throws: &mut Vec<Throw>, before: Option<u64>, thread: u64)
 {
     match before {
         Some(_) => {}
-        None => take_away(throws, thread),
-    }
-}
-
-// Keeps a throw behind others.
-fn keep_throw(throws: &mut Vec<Throw>, throw: Throw) -> Result<(), AllocError>
-    ensures { OnOk result (throws.new.items ≡ throws.old.items ++ throw ∷ []) }
-{
-    match throws.push(throw) {
-        Ok(()) => Ok(()),
-        Err(refused) => {
-            drop(refused);
-            Err(AllocError)
-        }
-    }
-}
-
-// Keeps what a step of a thread has thrown, if it has.
-fn keep_thrown<H: Heap>(
-    alloc: Global,
-    throws: &mut Vec<Throw>,
-    machine: &Machine<H>,
-    number: u64,
-    before: Option<u64>,
-    thread: u64,
-    thrown: Option<u64>,
-) -> Result<(), AllocError>
-    ensures { (w : World) → MatchesWorld machine.now w
-        → OnOk result (throws.new.items ≡ throws_with before throws.old.items number w thread thrown) }
-{
-    match thrown {
-        Some(thrown) => {
-            let throw = throw_of_thread(alloc, machine, number, thread, thrown)?;
-            leave_beside(throws, before, thread);
-            keep_throw(throws, throw)
-        }
-        None => Ok(()),
+        None => throws.retain(|other| other.thread != thread),
     }
 }
 
@@ -175,22 +96,15 @@ pub fn keep_throws<H: Heap>(
 {
     match event {
         Event::Step(thread) => {
-            let thrown = newly(before, machine.pending(thread));
-            keep_thrown(alloc, throws, machine, number, before, thread, thrown)
+            let Some(thrown) = newly(before, machine.pending(thread)) else {
+                return Ok(());
+            };
+            let throw = throw_of_thread(alloc, machine, number, thread, thrown)?;
+            leave_beside(throws, before, thread);
+            throws.push(throw)?;
+            Ok(())
         }
-        Event::Minor => Ok(()),
-        Event::Full => Ok(()),
-    }
-}
-
-// Writes what is told of a throw, if it is one of a thread.
-fn write_throw_by(out: &mut String, throw: &Throw, thread: u64) -> Result<(), AllocError>
-    ensures { OnOk result (out.new.bytes.items ≡ out.old.bytes.items ++ throw_by thread throw.now) }
-{
-    if throw.thread == thread {
-        out.push_str(throw.text.as_str())
-    } else {
-        Ok(())
+        Event::Minor | Event::Full => Ok(()),
     }
 }
 
@@ -199,7 +113,9 @@ pub fn write_throws_of(out: &mut String, throws: &[Throw], thread: u64) -> Resul
     ensures { OnOk result (out.new.bytes.items ≡ out.old.bytes.items ++ throws_of throws.now thread) }
 {
     for throw in throws {
-        write_throw_by(out, throw, thread)?;
+        if throw.thread == thread {
+            out.push_str(throw.text.as_str())?;
+        }
     }
     Ok(())
 }

@@ -9,7 +9,7 @@ loop-index-init g c = ap (λ t. c.args.out.now.bytes.items ++ t) (all_left eleme
 
 pub loop-index-preserved : goal.loop-index-preserved
 loop-index-preserved g c =
-    one_read element_lines c.args.object.now.object.values c.loop-index.index _ _ _ _ c.value.ensures c.in_ok-write_read_element.ensures c.loop-index.invariant
+    one_read element_lines c.args.object.now.object.values c.loop-index.index _ _ _ _ c.value.ensures c.in_ok-write_element.ensures c.loop-index.invariant
 
 pub returns : goal.returns
 returns g c =
