@@ -10,6 +10,7 @@ use Rattle.jm_explore.specs.declared.outcome.HowEnded.{HowEnded}
 use Rattle.jm_explore.specs.declared.outcome.HowEnded.TheVariants as how
 use Rattle.jm_explore_text.specs.OutcomeLines as told
 use Rattle.jm_explain.specs.Codes.{code_of}
+use Rattle.jm_machine.specs.EndTexts as line
 use Rattle.jm_execute.specs.Explorations as found
 use Rattle.jm_execute.specs.Reports as run
 
@@ -36,7 +37,7 @@ status_is w cut = by_status w.stop (live_among w.threads) cut w
 
 -- ---- the lines
 
-same_ended : (n : ℕ) (class : List ℕ) → told.ended_line (record { thread = n; class = class }) ≡ run.ended_line n class
+same_ended : (n : ℕ) (class : List ℕ) → told.ended_line (record { thread = n; class = class }) ≡ line.ended_line n class
 same_ended n class = refl
 
 one_line : (n : ℕ) (class : Option (List ℕ)) (rest : List Thrown) (text : List ℕ) → told.thrown_lines rest ≡ text
@@ -48,7 +49,7 @@ all_lines : (n : ℕ) (ts : List Thread) → told.thrown_lines (thrown_from n ts
 all_lines n [] = refl
 all_lines n (t ∷ ts) = one_line n (class_of_ending t.ending) (thrown_from (n + 1) ts) (run.thread_lines (n + 1) ts) (all_lines (n + 1) ts)
 
-same_stop : (stop : Stop) → told.stop_text stop ≡ run.stop_text stop
+same_stop : (stop : Stop) → told.stop_text stop ≡ line.stop_text stop
 same_stop (TagFault fault) = refl
 same_stop HeapFull = refl
 same_stop SerialsEnd = refl

@@ -1,6 +1,6 @@
 // What `jm run`, `jm replay`, `jm explore`, `jm asm`, `jm dis` and `jm debug` do.
 
-ghost use Rattle.std.specs.Prelude.{◌≡◌, ◌++◌, ◌⊎◌, [], ℕ, List, Bool, None, Some, false, true, IfOk, MatchResult, OnOk, string_bytes};
+ghost use Rattle.std.specs.Prelude.{◌≡◌, ◌++◌, ◌⊎◌, [], ℕ, List, Bool, None, Result, Some, false, true, IfOk, MatchResult, OnOk, string_bytes};
 ghost use Rattle.jm_machine.specs.View.{MatchesWorld};
 ghost use Rattle.jm_shared.specs.Legal.{events_of, world_after};
 ghost use Rattle.jm_world.specs.World.{World};
@@ -11,7 +11,6 @@ ghost use Rattle.jm_disassembler.specs.Texts.{class_text};
 ghost use Rattle.jm_disassembler.specs.Unsaid.{first_unsaid};
 ghost use Rattle.jm_execute.specs.ClassTexts.{unsaid_line};
 ghost use Rattle.jm_execute.specs.Endings.{Ending, assembled, completed, disassembled, exhausted, interrupted, output_of, turned_away, Allows, Ends, EndsIn, FailureTold, IsDone, IsDoneUnread, IsTalk, Leaves, LinesTold, Tells};
-ghost use Rattle.jm_debug.specs.Session.{session_of};
 ghost use Rattle.jm_execute.specs.Reasons.{reason_line};
 ghost use Rattle.jm_execute.specs.Reports.{heap_shown, report};
 ghost use Rattle.jm_execute.specs.Sources.{choice_made};
@@ -19,9 +18,9 @@ ghost use Rattle.jm_execute.specs.Collecting.{with_collections};
 ghost use Rattle.jm_execute.specs.Turns.{AreReplies, Records, RecordsPart};
 ghost use Rattle.jm_execute.specs.KeptRecords.{IsFinished, IsJournal, IsKept, IsKeptIf, IsRecord, IsRecordOf, made_whole};
 ghost use Rattle.jm_shared.specs.Records.{record_text};
-ghost use Rattle.jm_execute.specs.Talks.{IsHeld};
 ghost use Rattle.jm_execute.specs.Refusals.{Hinders, reason_of};
-ghost use Rattle.jm_execute.specs.Verdicts.{Verdict, assembly_verdict, debug_verdict, disassembly_verdict, explore_verdict, replay_verdict, run_verdict, verdict};
+ghost use Rattle.jm_execute.specs.Tellings.{SaysEnding, Telling, TellingAllows, TellingEnding, ToldRun, telling_output};
+ghost use Rattle.jm_execute.specs.Verdicts.{Cause, Verdict, assembly_verdict, debug_verdict, disassembly_verdict, explore_verdict, replay_verdict, run_verdict, verdict};
 ghost use Rattle.jm_execute.specs.Written.{reads, words};
 
 use crate::assembly::assemble_file;
@@ -62,18 +61,6 @@ pub(crate) struct Wanted {
     pub is_recorded: bool,
     /// Collections of a kind between the events of one worker.
     pub stress: Option<Kind>,
-}
-
-fn wanted_of(job: &RunJob) -> Wanted
-    ensures shows { result.show_heap ≡ job.now.show_heap }
-    ensures recorded { result.is_recorded ≡ job.now.is_recorded }
-    ensures stress { result.stress ≡ job.now.stress }
-{
-    Wanted {
-        show_heap: job.show_heap,
-        is_recorded: job.is_recorded,
-        stress: job.stress,
-    }
 }
 
 // Tells of a run whose events were all made, by the lines of its end.
@@ -125,7 +112,7 @@ pub(crate) fn tell_interrupted<H: Heap, O: Watchable, E: Watchable>(
 
 // Tells of a run whose events were all made. The lines of its end are made before anything is
 // written; where a growth is refused then, the run is told of as at an event.
-pub(crate) fn tell_run<H: Heap, O: Watchable, E: Watchable>(
+pub(crate) fn tell_end<H: Heap, O: Watchable, E: Watchable>(
     alloc: Global,
     machine: &Machine<H>,
     show_heap: bool,
@@ -385,12 +372,8 @@ fn refusal_line(alloc: Global, refusal: Refusal<'_>) -> Result<String, AllocErro
     format!(in alloc; "{refusal}\n")
 }
 
-/// Tells why a job is not done, or where memory is refused to that line that it was.
-pub(crate) fn tell_refusal<E: Watchable>(
-    alloc: Global,
-    refusal: Refusal<'_>,
-    err: &mut Watched<E>,
-) -> Status
+// Tells why a job is not done, or where memory is refused to that line that it was.
+fn tell_refusal<E: Watchable>(alloc: Global, refusal: Refusal<'_>, err: &mut Watched<E>) -> Status
     requires { err.old.failed ≡ false }
     ensures { Tells (words E.contents E.ends) (turned_away (reason_of refusal.entry)) result err.old err.new
         ⊎ Tells (words E.contents E.ends) exhausted result err.old err.new }
@@ -405,15 +388,18 @@ pub(crate) fn tell_refusal<E: Watchable>(
     }
 }
 
-// Tells why a job is not done. Nothing is written to the output.
-fn tell_obstacle<E: Watchable>(
+/// Tells why a job is not done. Nothing is written to the output.
+pub(crate) fn tell_obstacle<E: Watchable>(
     alloc: Global,
     obstacle: Obstacle<'_>,
     err: &mut Watched<E>,
 ) -> Status
     requires { err.old.failed ≡ false }
-    ensures { (v : Verdict) → Hinders v obstacle.entry → (e : Ending) × Allows v e × (IsTalk e → ⊥) × (output_of e ≡ [])
+    ensures job { (v : Verdict) → Hinders v obstacle.entry → (e : Ending) × Allows v e × (IsTalk e → ⊥) × (output_of e ≡ [])
         × Tells (words E.contents E.ends) e result err.old err.new × (made_whole e ≡ None) }
+    // The same of a run of which something is told.
+    ensures told { (tells : Telling) (v : Result ToldRun Cause) → Hinders v obstacle.entry
+        → (e : TellingEnding) × TellingAllows tells v e × (telling_output tells e ≡ []) × SaysEnding (words E.contents E.ends) tells e result err.old err.new }
 {
     match obstacle {
         Obstacle::Refused(refusal) => tell_refusal(alloc, refusal, err),
@@ -463,7 +449,11 @@ fn execute_run<C: Collector + Drop + Send, W: Threads + Wait + Sync, O: Watchabl
 {
     match prepare(alloc, job, collector) {
         Ok((machine, plan)) => {
-            let wanted = wanted_of(job);
+            let wanted = Wanted {
+                show_heap: job.show_heap,
+                is_recorded: job.is_recorded,
+                stress: job.stress,
+            };
             run_as_chosen(rt, alloc, machine, &plan, wanted, out, err)
         }
         Err(obstacle) => Finished::without_record(tell_obstacle(alloc, obstacle, err)),
@@ -538,24 +528,6 @@ fn execute_explore<W: Threads, O: Watchable, E: Watchable>(
     }
 }
 
-// Answers the lines of a reader in the session that begins with a machine.
-fn answer_session<H: Heap + Drop, W: Wait, R: Readable, O: Watchable>(
-    rt: &W,
-    alloc: Global,
-    machine: Machine<H>,
-    reader: &mut Watched<R>,
-    out: &mut Watched<O>,
-) -> Status
-    requires { out.old.failed ≡ false }
-    ensures { (w : World) → MatchesWorld machine w
-        → IsHeld (reads R.remaining R.fails) (words O.contents O.ends) (session_of w) result reader.old reader.new out.old out.new }
-{
-    let mut debugger = Debugger::new(alloc, machine);
-    let status = answer_lines(rt, alloc, &mut debugger, reader, out);
-    drop(debugger);
-    status
-}
-
 // Tells that a write to the output failed, where one has.
 fn tell_failure<O: Watchable, E: Watchable>(out: &Watched<O>, err: &mut Watched<E>)
     requires { err.old.failed ≡ false }
@@ -583,7 +555,9 @@ fn execute_debug<C: Collector + Drop, W: Wait, R: Readable, O: Watchable, E: Wat
 {
     match prepare_session(alloc, job, collector) {
         Ok(machine) => {
-            let status = answer_session(rt, alloc, machine, reader, out);
+            let mut debugger = Debugger::new(alloc, machine);
+            let status = answer_lines(rt, alloc, &mut debugger, reader, out);
+            drop(debugger);
             tell_failure(out, err);
             status
         }

@@ -1,9 +1,8 @@
 // From a job's files to a machine and the events that it is to make.
 
-ghost use Rattle.std.specs.Prelude.{◌≡◌, None, [], IfErr, IfOk};
+ghost use Rattle.std.specs.Prelude.{◌≡◌, IfOk};
 ghost use Rattle.jm_world.specs.Loading.{loaded_world};
 ghost use Rattle.jm_world.specs.World.{World};
-ghost use Rattle.jm_gen_heap.specs.Residents.{content_of};
 ghost use Rattle.jm_machine.specs.Start.{IsEmpty};
 ghost use Rattle.jm_execute.specs.Beginnings.{StandsAtItsBeginning};
 ghost use Rattle.jm_execute.specs.Refusals.{Gives};
@@ -134,21 +133,6 @@ fn plan_of(alloc: Global, events: &RunEvents) -> Result<RunPlan, Obstacle<'_>>
 /// The heap of a run: of two generations, with a collector.
 pub type RunHeap<C> = GenHeap<C>;
 
-// An empty heap of so many cells.
-fn empty_heap<'a, C: Collector + Drop>(
-    alloc: Global,
-    limit: u32,
-    collector: C,
-) -> Result<RunHeap<C>, Obstacle<'a>>
-    ensures empty { IfOk result (λ heap. content_of heap ≡ record { limit = limit; next = 0; residents = [] }) }
-    ensures memory { IfErr result (λ obstacle. obstacle ≡ Obstacle.OutOfMemory) }
-{
-    match GenHeap::new(alloc, limit, collector) {
-        Ok(heap) => Ok(heap),
-        Err(_) => Err(Obstacle::OutOfMemory),
-    }
-}
-
 /// A machine before its first event, and how its events are chosen.
 pub type Ready<C> = (Machine<RunHeap<C>>, RunPlan);
 
@@ -162,9 +146,9 @@ pub(crate) fn machine_within<C: Collector + Drop>(
     ensures program { Gives result (program_of limit files.now) (λ machine. machine.linked.program) }
     ensures ready { IfOk result (StandsAtItsBeginning limit) }
 {
-    match empty_heap(alloc, limit, collector) {
+    match GenHeap::new(alloc, limit, collector) {
         Ok(heap) => machine_of(alloc, files, heap),
-        Err(obstacle) => Err(obstacle),
+        Err(_) => Err(Obstacle::OutOfMemory),
     }
 }
 
