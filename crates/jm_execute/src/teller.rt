@@ -8,7 +8,7 @@ ghost use Rattle.jm_world.specs.Run.{run_from};
 ghost use Rattle.jm_world.specs.World.{World};
 ghost use Rattle.jm_execute.specs.Tellings.{Telling, film_telling, trace_telling, why_telling};
 
-use jm_due::EventsDue;
+use jm_events::EventsDue;
 use jm_film_run::{Window, write_film};
 use jm_heap::Heap;
 use jm_listing::Source;

@@ -18,7 +18,7 @@ use crate::teller::Teller;
 use crate::told_preparation::prepare_told;
 use crate::watchable::Watchable;
 use crate::watched::Watched;
-use jm_due::{EventsDue, Scheduled, Turns};
+use jm_events::{EventsDue, Scheduled, Turns};
 use jm_explain::Status;
 use jm_heap::Heap;
 use jm_job::ToldJob;

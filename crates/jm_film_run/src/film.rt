@@ -17,7 +17,7 @@ use crate::front::put_front;
 use crate::shots::show;
 use crate::skipping::{Skipped, skip};
 use crate::window::Window;
-use jm_due::EventsDue;
+use jm_events::EventsDue;
 use jm_filming::Filming;
 use jm_heap::Heap;
 use jm_listing::Source;

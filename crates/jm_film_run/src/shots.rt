@@ -12,7 +12,7 @@ ghost use Rattle.jm_page.specs.Writing.{Puts};
 ghost use Rattle.jm_page.specs.declared.page.TheConstants.{BELOW};
 ghost use Rattle.jm_film_run.specs.Shots.{end_row, shots};
 
-use jm_due::EventsDue;
+use jm_events::EventsDue;
 use jm_film::{Row, write_row};
 use jm_filming::{Filming, is_blocked};
 use jm_heap::Heap;

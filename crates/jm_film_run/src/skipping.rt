@@ -8,7 +8,7 @@ ghost use Rattle.jm_machine.specs.View.{MatchesWorld};
 ghost use Rattle.jm_filming.specs.Runs.{waits_behind};
 ghost use Rattle.jm_film_run.specs.Shots.{Reached};
 
-use jm_due::EventsDue;
+use jm_events::EventsDue;
 use jm_filming::{is_blocked, waiting_after};
 use jm_heap::Heap;
 use jm_machine::Machine;

@@ -4,11 +4,11 @@
 //! the reply: `7 t1 Main.main([Ljava/lang/String;)V:3 line 3: iadd [#0] [int 2] [int 3] -> done`. A stage of an
 //! initialization and of unwinding stand there by name. What a line is, is a definition over the worlds of `jm_world`
 //! (`specs/`): a text of the number, the world before, the event and its reply, over the debugger's texts of places and
-//! values. [`write_standing`] writes what is next in a frame; [`write_trace`] makes the events that are due (`jm_due`)
+//! values. [`write_standing`] writes what is next in a frame; [`write_trace`] makes the events that are due (`jm_events`)
 //! from a machine's world on and writes the lines of those that are [`Shown`] into a writer of pieces (`jm_page`): what
 //! stands there is the fold over the run's events.
 //!
-//! The crate stands on `jm_machine`, `jm_debug`, `jm_page` and `jm_due`.
+//! The crate stands on `jm_machine`, `jm_debug`, `jm_page` and `jm_events`.
 #![tactic(auto)]
 
 mod doing;

@@ -11,7 +11,7 @@ ghost use Rattle.jm_trace.specs.Traces.{trace};
 
 use crate::event_line::{write_before, write_behind};
 use crate::shown::{Shown, is_shown};
-use jm_due::EventsDue;
+use jm_events::EventsDue;
 use jm_heap::Heap;
 use jm_machine::Machine;
 use jm_page::{PageFault, PageWriter};

@@ -9,7 +9,7 @@ ghost use Rattle.jm_why.specs.Answers.{why};
 
 use crate::answer::write_answer;
 use crate::watching::watch;
-use jm_due::EventsDue;
+use jm_events::EventsDue;
 use jm_heap::Heap;
 use jm_machine::Machine;
 use jm_page::{PageFault, PageWriter};

@@ -8,7 +8,7 @@ ghost use Rattle.jm_machine.specs.View.{MatchesWorld};
 ghost use Rattle.jm_why.specs.Kept.{kept_behind, kept_of};
 
 use crate::kept::Kept;
-use jm_due::EventsDue;
+use jm_events::EventsDue;
 use jm_heap::Heap;
 use jm_machine::Machine;
 use jm_waits::is_blocked;

@@ -4,7 +4,7 @@ use Rattle.jm_page.proofs.Pieces.{put_nothing}
 use Rattle.jm_world.specs.RoundRobin.{is_blocked}
 use Rattle.jm_film_run.proofs.Fronts.{put_of}
 use Rattle.jm_film_run.proofs.shots.shoot.Goals as goal
-use Rattle.jm_due.proofs.Answered.{of_answer}
+use Rattle.jm_events.proofs.Answered.{of_answer}
 
 pub returns-in-Ok-clause-told : goal.returns-in-Ok-clause-told
 returns-in-Ok-clause-told g c = λ w m. put_of _ _ c.put_piece.result _ _ _ _ _ (c.in-Ok.ensures.written w m) c.requires c.put_piece.ensures.put

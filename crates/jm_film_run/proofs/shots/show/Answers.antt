@@ -7,7 +7,7 @@ use Rattle.jm_page.specs.declared.page.TheConstants.{BELOW}
 use Rattle.jm_film_run.proofs.Fronts.{put_fault, put_last}
 use Rattle.jm_film_run.proofs.Telling.{all_made, fault_total, last_below, made, no_more, no_shot, none_made, none_shown, none_was_made, one_more_shot}
 use Rattle.jm_film_run.proofs.shots.show.Goals as goal
-use Rattle.jm_due.proofs.Answered.{of_answer}
+use Rattle.jm_events.proofs.Answered.{of_answer}
 
 pub loop-shot-init : goal.loop-shot-init
 loop-shot-init g c = (

@@ -3,7 +3,7 @@ use Rattle.std.proofs.Common.{ap, ◌∙◌}
 use Rattle.jm_page.proofs.Pieces.{put_nothing}
 use Rattle.jm_world.specs.RoundRobin.{is_blocked}
 use Rattle.jm_trace.proofs.trace.put_told.Goals as goal
-use Rattle.jm_due.proofs.Answered.{of_answer}
+use Rattle.jm_events.proofs.Answered.{of_answer}
 
 pub returns-in-Ok-clause-made : goal.returns-in-Ok-clause-made
 returns-in-Ok-clause-made g c = λ w m. of_answer _ c.put_line.result (c.in-Ok.ensures.made w m).0

@@ -1,3 +1,0 @@
-pub mod Schedules
-pub mod Rounds
-pub mod Answered
