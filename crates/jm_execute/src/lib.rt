@@ -17,9 +17,9 @@
 //! (`jm_disassembler`), and denotes the class where a text can; the answers are those of the debugger's definition
 //! (`jm_debug`) to the lines that the reader's bytes spell, one after the other.
 //!
-//! `program_file` says which class a file holds, `preparation` goes from files to a machine, `events` and `round_robin` make
-//! the events of one worker, the latter over the threads that a `pass` keeps, and `workers` those of several; `report` and
-//! `ends` say how a run ended. `replaying`, `exploring`, `assembly`, `disassembly` and `session` have the other jobs, the last
+//! `program_file` says which class a file holds, `preparation` goes from files to a machine, `events` says where its events
+//! come from (`jm_events`), `one_worker` makes them, and `workers` those that several choose; `report` and `ends` say how a
+//! run ended. `replaying`, `exploring`, `assembly`, `disassembly` and `session` have the other jobs, the last
 //! over the `lines` of its reader; `told_run` has what a `teller` tells, `checking` and `explanation` what their names say.
 //! [`Utf8`] is a text of code units, as a String's chars and the name of a class are, whose `Display` is the text in UTF-8.
 //! The writer and the reader of class files do not know one another, so [`written_and_read`] stands here: a class that is
@@ -27,7 +27,7 @@
 //!
 //! It is the crate in which the others meet: it stands on the machine (`jm_machine`, `jm_shared`, `jm_gen_heap` with its
 //! collectors `jm_copy` and `jm_par_copy`), what goes before it (`jm_class_reader`, `jm_jasmin`, `jm_linker`, `jm_schedule`) and
-//! what is made of it (`jm_choice`, `jm_explore`, `jm_debug`, `jm_film_run`, `jm_trace`, `jm_why`), on `jm_class_writer`,
+//! what is made of it (`jm_events`, `jm_choice`, `jm_explore`, `jm_debug`, `jm_film_run`, `jm_trace`, `jm_why`), on `jm_class_writer`,
 //! `jm_disassembler` and `jm_findings`, on the jobs (`jm_job`) and on `jm_explain`.
 #![tactic(auto)]
 
@@ -46,7 +46,7 @@ mod film_execution;
 mod finished;
 mod laws;
 mod lines;
-mod pass;
+mod one_worker;
 mod preparation;
 mod program_file;
 mod readable;
@@ -54,10 +54,8 @@ mod reasons_of_end;
 mod refusal;
 mod replaying;
 mod report;
-mod round_robin;
 mod round_trip;
 mod session;
-mod sole_worker;
 mod teller;
 mod text_page;
 mod told_preparation;
@@ -71,8 +69,8 @@ pub use assembly::assemble_file;
 pub use checking::check;
 pub use disassembly::{ClassText, disassemble_file};
 pub use ends::status_of;
-pub use events::{EventSource, RunPlan, RunSource};
-pub use execution::{Made, execute, make_journal};
+pub use events::{RunPlan, RunSource};
+pub use execution::execute;
 pub use explanation::{explain, tell_version};
 pub use exploring::Lack;
 pub use file_name::FileName;
@@ -92,6 +90,7 @@ pub use laws::{
     nothing_is_told_where_files_load, text_of_its_class,
 };
 pub use lines::{LineFault, NextLine, Unread};
+pub use one_worker::{Made, make_journal};
 pub use preparation::{
     Ready, ReadyToReplay, RunHeap, machine_of, prepare, prepare_exploration, prepare_replay,
     prepare_session,
@@ -105,7 +104,6 @@ pub use report::{
 };
 pub use round_trip::written_and_read;
 pub use session::answer_lines;
-pub use sole_worker::SoleWorker;
 pub use teller::{FilmTeller, Teller, TraceTeller, WhyTeller};
 pub use told_preparation::{ReadyToTell, prepare_told};
 pub use told_run::tell_run;

@@ -76,7 +76,7 @@ fn tell_events<T: Teller, H: Heap, S: EventsDue, O: Watchable, E: Watchable>(
 ) -> Status
     requires out { out.old.failed ≡ false }
     requires err { err.old.failed ≡ false }
-    ensures { (program : List ClassParts) (limit : ℕ) → let w : World = loaded_world program limit in MatchesWorld machine.old w
+    ensures { (program : List ClassParts) (limit : ℕ) → let w : World = loaded_world program limit in MatchesWorld machine.old w → S.knows events.old w
         → IsTold (words O.contents O.ends) (words E.contents E.ends) (T.telling teller.now) (Ok (told_run program limit (S.due events.old w))) result out.old out.new err.old err.new }
 {
     let written = teller.tell(alloc, machine, events, out);
@@ -103,7 +103,7 @@ fn tell_source<T: Teller, H: Heap, O: Watchable, E: Watchable>(
             tell_events(alloc, machine, &mut events, teller, out, err)
         }
         RunSource::RoundRobin(robin) => {
-            let mut events = Turns::new(*robin);
+            let mut events = Turns::new(alloc, *robin);
             tell_events(alloc, machine, &mut events, teller, out, err)
         }
     }
