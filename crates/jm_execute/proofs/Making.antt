@@ -36,6 +36,14 @@ use Rattle.jm_execute.proofs.Woven.{is_collection, none_woven, still, woven_last
 
 -- ---- a journal with more entries
 
+turns_made : (t : Receipts) → events_of (entries_of_turns t) ≡ steps_of t.thread (made_of_steps t.steps)
+turns_made t =
+    let one = entry_of t.seat (Step t.thread) in
+    let others = other_replies t.steps.end in
+    map-append (λ (e : Entry). e.event) (replicate t.steps.alike (one t.steps.reply)) (map one others)
+    ∙ (λ i. events_replicate t.steps.alike (one t.steps.reply) i ++ events_told t.seat (Step t.thread) others i)
+    ∙ replicate-append-replicate t.steps.alike (length others) (Step t.thread)
+
 module _ {H : Type 0} (first : World) (stress : Option Kind) where
   pub begun : (b : Book H) → b.entries ≡ [] → MatchesWorld b.machine first → HasMade first stress false [] b
   begun b none matches = record {
@@ -65,10 +73,10 @@ module _ {H : Type 0} (first : World) (stress : Option Kind) where
   pub collected_more : (k : Kind) (made : List Event) (x : Entry) (old new : Book H) → stress ≡ Some k → x.seat ≡ 0 → x.event ≡ collection_of k
       → new.entries ≡ old.entries ++ x ∷ [] → MatchesWorld new.machine (after (run_from first made) x.event).world
       → HasMade first stress false made old → HasMade first stress true made new
-  collected_more k made x old new is zero kind more matches has =
+  collected_more k made x old new is seat kind more matches has =
       let P = IsOwnOrCollects (own_seat stress) in
       let one : own_seat stress ≡ 1 = ap own_seat is in
-      let low : x.seat < own_seat stress = omega (arith, zero, one) in
+      let low : x.seat < own_seat stress = omega (arith, seat, one) in
       record {
         known = subst (All P) (sym more)
             (All-append P old.entries (x ∷ []) has.known (All-cons P x [] (inr (low, subst IsCollection (sym kind) (is_collection k))) (All-nil P)));
@@ -91,14 +99,6 @@ module _ {H : Type 0} (first : World) (stress : Option Kind) where
       }
 
   -- steps of a thread more, where there are no collections
-  turns_made : (t : Receipts) → events_of (entries_of_turns t) ≡ steps_of t.thread (made_of_steps t.steps)
-  turns_made t =
-      let one = entry_of t.seat (Step t.thread) in
-      let others = other_replies t.steps.end in
-      map-append (λ (e : Entry). e.event) (replicate t.steps.alike (one t.steps.reply)) (map one others)
-      ∙ (λ i. events_replicate t.steps.alike (one t.steps.reply) i ++ events_told t.seat (Step t.thread) others i)
-      ∙ replicate-append-replicate t.steps.alike (length others) (Step t.thread)
-
   pub steps_more : (made : List Event) (t : Receipts) (old new : Book H) → stress ≡ None → t.seat ≡ 0
       → new.entries ≡ old.entries ++ entries_of_turns t → MatchesWorld new.machine (run_from (run_from first made) (steps_of t.thread (made_of_steps t.steps)))
       → HasMade first stress false made old → HasMade first stress false (made ++ steps_of t.thread (made_of_steps t.steps)) new
@@ -155,7 +155,7 @@ module _ {S H : Type 0} (due : S → World → List Event) (knows : S → World 
         has = has;
         whole = is.whole ∙ ap (λ (es : List Event). is.made ++ es) (is.next.one ∙ (λ i. d.event ∷ due (state i) (there i)))
             ∙ sym (append_assoc is.made (d.event ∷ []) (due left (run_from first (is.made ++ d.event ∷ []))));
-        knows = subst (λ s. knows s (run_from first (is.made ++ d.event ∷ []))) state (subst (knows (seen source (is_blocked (after now d.event).reply.kind))) there is.next.kept);
+        kept = subst (λ s. knows s (run_from first (is.made ++ d.event ∷ []))) state (subst (knows (seen source (is_blocked (after now d.event).reply.kind))) there is.next.kept);
       }
 
   module _ (thread k : ℕ) (step : d.event ≡ Step thread) (few : k < d.most) (all : replies_from now (steps_of thread k) ≡ replicate k (done_reply now)) where
@@ -194,7 +194,7 @@ module _ {S H : Type 0} (due : S → World → List Event) (knows : S → World 
               ∙ sym (append_assoc (steps_of thread k) (Step thread ∷ []) (due left (run_from first (is.made ++ steps_of thread (k + 1)))))
               ∙ ap (λ (es : List Event). es ++ due left (run_from first (is.made ++ steps_of thread (k + 1)))) sum)
               ∙ sym (append_assoc is.made (steps_of thread (k + 1)) (due left (run_from first (is.made ++ steps_of thread (k + 1)))));
-          knows = subst (λ s. knows s (run_from first (is.made ++ steps_of thread (k + 1)))) state (subst (knows last) there next.1);
+          kept = subst (λ s. knows s (run_from first (is.made ++ steps_of thread (k + 1)))) state (subst (knows last) there next.1);
         }
 
 -- ---- where a journal stands between events
@@ -273,6 +273,11 @@ module _ {S H : Type 0} (due : S → World → List Event) (knows : S → World 
 
 -- ---- the journal of a run
 
+-- the collections change no world
+leads : {H : Type 0} (first : World) (stress : Option Kind) (b : Book H) (collected : Bool) (made : List Event) → HasMade first stress collected made b
+    → world_after first b.entries ≡ run_from first made
+leads first stress b collected made has = ap (run_from first) has.events ∙ woven_runs stress collected first made
+
 module _ {H T E : Type 0} (first : World) (stress : Option Kind) (events : List Event) (b : Book H) where
   -- it has all events, with the collections between them, or the first of these
   pub journal_made : (r : Result T E) → MatchResult r (λ _. HasMade first stress true events b) (λ _. HasMadeSome first stress events b)
@@ -282,14 +287,10 @@ module _ {H T E : Type 0} (first : World) (stress : Option Kind) (events : List 
       let (more, is) = woven_part stress some.collected some.made some.rest in
       (more, ap (woven stress true) some.whole ∙ is ∙ ap (λ (es : List Event). es ++ more) (sym some.has.events))
 
-  -- the collections change no world
-  leads : (collected : Bool) (made : List Event) → HasMade first stress collected made b → world_after first b.entries ≡ run_from first made
-  leads collected made has = ap (run_from first) has.events ∙ woven_runs stress collected first made
-
   pub journal_ends : (r : Result T E) → MatchResult r (λ _. HasMade first stress true events b) (λ _. HasMadeSome first stress events b)
       → MatchResult r (λ _. RunEnds first (listed events) (all_made (world_after first b.entries))) (λ _. RunEnds first (listed events) (cut_short (world_after first b.entries)))
-  journal_ends (Ok x) has = (events, refl, leads true events has)
-  journal_ends (Err e) some = (some.made, (some.rest, some.whole), leads some.collected some.made some.has)
+  journal_ends (Ok x) has = (events, refl, leads first stress b true events has)
+  journal_ends (Err e) some = (some.made, (some.rest, some.whole), leads first stress b some.collected some.made some.has)
 
   pub journal_kept : (r : Result T E) → IsLegal first b.entries → MatchResult r (λ _. HasMade first stress true events b) (λ _. HasMadeSome first stress events b)
       → OnOk r (IsJournal stress first (listed events) b.entries)

@@ -31,7 +31,7 @@ pub record Stands {S H : Type 0} (due : S → World → List Event) (knows : S �
   pub made : List Event
   pub has : HasMade first stress false made b
   pub whole : events ≡ made ++ due source (run_from first made)
-  pub knows : knows source (run_from first made)
+  pub kept : knows source (run_from first made)
 
 -- and the source has said which one is the next
 pub record IsDue {S H : Type 0} (due : S → World → List Event) (knows : S → World → Type 0) (seen : S → Bool → S) (behind : S → ℕ → S) (first : World) (stress : Option Kind) (events : List Event) (d : DueEvent) (source : S) (b : Book H) : Type 0 where

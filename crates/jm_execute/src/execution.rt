@@ -241,7 +241,12 @@ fn run_by_one_worker<H: Heap + Drop, O: Watchable, E: Watchable>(
         RunSource::Schedule(schedule) => {
             let mut events = Scheduled::new(schedule);
             run_events::<Scheduled<'_>, H, Brand, O, E>(
-                alloc, machine, &mut events, wanted, out, err,
+                alloc,
+                machine,
+                &mut events,
+                wanted,
+                out,
+                err,
             )
         }
         RunSource::RoundRobin(robin) => {

@@ -10,4 +10,4 @@ returns-clause-ends g c = journal_ends g.R.Origin.first c.args.stress _ c.make_e
 
 pub returns-clause-journal : goal.returns-clause-journal
 returns-clause-journal g c =
-    journal_kept g.R.Origin.first c.args.stress _ c.make_events-made.new.journal c.make_events-made.result c.entry-_legal.ensures.legal c.make_events-made.ensures
+    journal_kept g.R.Origin.first c.args.stress _ c.make_events-made.new.journal c.make_events-made.result c.entry-legal.ensures.legal c.make_events-made.ensures

@@ -10,14 +10,14 @@ use Rattle.jm_execute.proofs.one_worker.make_one.Goals as goal
 pub returns-in_err-collect : goal.returns-in_err-collect
 returns-in_err-collect g c =
     let p = err_from_is_err_and c.from_residual.result c.from_residual.ensures.1 in
-    rw (p.1, p.2) (λ events is.
+    rw p.1 (λ events is.
     none_made g.S.EventsDue.due g.S.EventsDue.knows g.S.EventsDue.seen g.S.EventsDue.behind g.R.Origin.first c.args.stress events c.args.due c.args.source.now c.args.journal.now is false
     c.collect.new.journal (c.in_err-collect.ensures is.made is.has))
 
 pub returns-in_err-receipt : goal.returns-in_err-receipt
 returns-in_err-receipt g c =
     let p = err_from_is_err_and c.from_residual-in_err-receipt.result c.from_residual-in_err-receipt.ensures.1 in
-    rw (p.1, p.2) (λ events is.
+    rw p.1 (λ events is.
     let has = c.in_ok-collect.ensures is.made is.has in
     none_made g.S.EventsDue.due g.S.EventsDue.knows g.S.EventsDue.seen g.S.EventsDue.behind g.R.Origin.first c.args.stress events c.args.due c.args.source.now c.args.journal.now is true c.turn.new.self
     (unchanged g.R.Origin.first c.args.stress true is.made c.collect.new.journal c.turn.new.self c.in_err-receipt.ensures.entries
