@@ -1,0 +1,5 @@
+pub mod Passes
+pub mod Schedules
+pub mod Rounds
+pub mod Lone
+pub mod Alike

@@ -1,5 +1,5 @@
 -- The events of a run, and those that are due behind some of them.
-use Rattle.std.specs.Prelude.{◌≡◌, ℕ, suc, zero, ◌+◌, ◌-◌, ◌<◌, List, ◌∷◌, [], ◌++◌, Bool, true, false, drop, max, min, nat_eq, nat_lt, replicate}
+use Rattle.std.specs.Prelude.{◌≡◌, ℕ, suc, zero, ◌+◌, ◌-◌, ◌<◌, List, ◌∷◌, ◌++◌, Bool, true, false, drop, max, min, nat_eq, nat_lt, replicate}
 use Rattle.jm_world.specs.RoundRobin.{is_blocked, robin_from}
 use Rattle.jm_world.specs.Run.{after, replies_from, run_from}
 use Rattle.jm_world.specs.World.{World}

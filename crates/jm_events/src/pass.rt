@@ -56,14 +56,14 @@ impl Pass {
             → IfOk result (λ found. Finds w passed self.new found × (self.new.known ≡ length w.threads)) }
     {
         while let Some(thread) = self.ahead.front().copied() {
-            let live = machine.is_live(thread);
-            if live && passed < thread {
+            if !machine.is_live(thread) {
+                let _ended = self.ahead.pop_front();
+            } else if passed < thread {
                 return Ok(Some(thread));
-            }
-            if live {
+            } else {
                 self.behind.push_back(thread)?;
+                let _passed = self.ahead.pop_front();
             }
-            let _first = self.ahead.pop_front();
         }
         Ok(None)
     }

@@ -48,10 +48,10 @@ impl EventsDue for Scheduled<'_> {
 
     fn next<H: Heap>(&mut self, _machine: &Machine<H>) -> Result<Option<DueEvent>, AllocError> {
         while self.run.count == 0 {
-            let Some(run) = self.runs.get(self.begun).copied() else {
+            if self.begun >= self.runs.len() {
                 return Ok(None);
-            };
-            self.run = run;
+            }
+            self.run = self.runs[self.begun];
             self.begun += 1;
         }
         let due = DueEvent {
