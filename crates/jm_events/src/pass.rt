@@ -10,8 +10,8 @@ use jm_machine::Machine;
 use std::alloc::{AllocError, Global};
 use std::collections::VecDeque;
 
-/// Threads by their numbers, all that are live among them. One that has ended is left out once it is met, so that
-/// nobody asks for it again.
+/// Threads by their numbers, all that are live among them. One that has ended is left out where it would have its turn,
+/// so that nobody asks for it again.
 #[derive(Drop)]
 pub struct Pass {
     /// Those whose turn may come, rising.
@@ -56,13 +56,13 @@ impl Pass {
             → IfOk result (λ found. Finds w passed self.new found × (self.new.known ≡ length w.threads)) }
     {
         while let Some(thread) = self.ahead.front().copied() {
-            if !machine.is_live(thread) {
-                let _ended = self.ahead.pop_front();
-            } else if passed < thread {
-                return Ok(Some(thread));
-            } else {
+            if thread <= passed {
                 self.behind.push_back(thread)?;
                 let _passed = self.ahead.pop_front();
+            } else if machine.is_live(thread) {
+                return Ok(Some(thread));
+            } else {
+                let _ended = self.ahead.pop_front();
             }
         }
         Ok(None)
