@@ -11,6 +11,7 @@
 mod files;
 mod output;
 mod sources;
+mod utf8;
 mod word;
 mod written;
 

@@ -1,6 +1,7 @@
 // The sources of a program's classes, below a folder.
 
-use jm_execute::{InputFile, Utf8, class_of};
+use crate::utf8::Utf8;
+use jm_execute::{InputFile, class_of};
 use jm_listing::Source;
 use jm_program::{Class, Name};
 use std::alloc::{AllocError, Global};

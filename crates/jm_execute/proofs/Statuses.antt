@@ -11,14 +11,15 @@ use Rattle.jm_execute.specs.Endings.{Ending, completed, interrupted, differed, e
 use Rattle.jm_execute.specs.Talks.{Close, ClosesBy, close_status, call_failed, input_ended, memory_refused}
 use Rattle.jm_execute.specs.Written.{Reads, Watch}
 use Rattle.jm_execute.specs.Reasons.{Reason, not_read, no_class, no_class_file, not_linked, heap_too_small, no_event, reason_status}
-use Rattle.jm_execute.specs.Reports.{any_ended_by, end_status, status_of, stop_status}
+use Rattle.jm_execute.specs.Reports.{any_ended_by, end_status, status_of}
 use Rattle.jm_explore.specs.Outcomes.{Thrown, told_end}
 use Rattle.jm_explore.specs.declared.exploration.Explored.{Explored}
 use Rattle.jm_explore.specs.declared.outcome.HowEnded.{HowEnded}
 use Rattle.jm_explore.specs.declared.outcome.HowEnded.TheVariants as how
 use Rattle.jm_explore.specs.declared.told.Told.{Told}
 use Rattle.jm_explore.specs.declared.unfinished.Unfinished.{Unfinished}
-use Rattle.jm_execute.specs.Explorations.{found_status, how_status, lack_of, lack_status, one_status, told_status}
+use Rattle.jm_explore.specs.Statuses.{how_status, stop_status}
+use Rattle.jm_execute.specs.Explorations.{found_status, lack_of, lack_status, one_status, told_status}
 use Rattle.jm_execute.specs.declared.exploring.Lack.{Lack}
 use Rattle.jm_execute.specs.declared.exploring.Lack.TheVariants as lacks
 use Rattle.jm_execute.specs.Verdicts.{Verdict, because}

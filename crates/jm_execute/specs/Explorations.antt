@@ -2,18 +2,17 @@
 use Rattle.std.specs.Prelude.{◌≡◌, ◌≤◌, ℕ, List, [], ◌∷◌, Option, Some, None, codes}
 use Rattle.std.specs.List.{All, AllPairs}
 use Rattle.jm_world.specs.World.{World}
-use Rattle.jm_explore.specs.Outcomes.{AllTold, AreOther, End, HasFewest, IsTrueOf, Thrown, told_end}
+use Rattle.jm_explore.specs.Outcomes.{AllTold, AreOther, HasFewest, IsTrueOf, told_end}
 use Rattle.jm_explore.specs.Searches.{founds}
 use Rattle.jm_explore.specs.declared.bounds.Bounds.{Bounds}
 use Rattle.jm_explore.specs.declared.exploration.Explored.{Explored}
-use Rattle.jm_explore.specs.declared.outcome.HowEnded.{HowEnded}
-use Rattle.jm_explore.specs.declared.outcome.HowEnded.TheVariants as how
 use Rattle.jm_explore.specs.declared.told.Told.{Told}
 use Rattle.jm_explore.specs.declared.unfinished.Unfinished.{Unfinished}
 use Rattle.jm_explore.specs.declared.unfinished.Unfinished.TheVariants as unfinished
-use Rattle.jm_explore_text.specs.Explorations.{exploration_text, told_at}
-use Rattle.jm_explore_text.specs.ScheduleTexts.{schedule_text}
-use Rattle.jm_execute.specs.Reports.{memory_line, stop_status}
+use Rattle.jm_explore.specs.ExplorationTexts.{exploration_text, told_at}
+use Rattle.jm_explore.specs.ScheduleTexts.{schedule_text}
+use Rattle.jm_explore.specs.Statuses.{outcome_status}
+use Rattle.jm_execute.specs.Reports.{memory_line}
 use Rattle.jm_execute.specs.declared.exploring.Lack.{Lack}
 use Rattle.jm_execute.specs.declared.exploring.Lack.TheVariants as lacks
 use Rattle.jm_explain.specs.declared.status.Status.{Status}
@@ -71,21 +70,6 @@ lack_lines (Some lacks.Memory) = memory_line
 lack_lines (Some lacks.Outcome) = no_such_line
 
 -- ---- the status
-
--- all threads have ended: some of them by an exception, or none
-abbrev pub ended_status : List Thrown → Status
-ended_status [] = ends.Done
-ended_status (t ∷ ts) = ends.EndedByException
-
-abbrev pub how_status : HowEnded → List Thrown → Status
-how_status how.Ended thrown = ended_status thrown
-how_status (how.Stopped stop) thrown = stop_status stop
-how_status (how.Deadlock live) thrown = ends.NotEnded
-how_status how.Cut thrown = ends.NotEnded
-
--- that of a run that comes to this outcome
-abbrev pub outcome_status : End → Status
-outcome_status e = how_status e.how e.thrown
 
 -- where there is one outcome: that not all were tried, or else its status
 abbrev pub one_status : Option Unfinished → Told → Status

@@ -8,6 +8,7 @@ use Rattle.jm_debug.specs.Views.{heap_lines}
 use Rattle.jm_world.specs.declared.stop.Stop.TheVariants.{TagFault, HeapFull, SerialsEnd}
 use Rattle.jm_machine.specs.EndTexts.{ended_line, stop_text}
 use Rattle.jm_machine.specs.Threads.{class_of_ending}
+use Rattle.jm_explore.specs.Statuses.{ended_status, stop_status}
 use Rattle.jm_execute.specs.FileNames.{file_name_text}
 use Rattle.jm_explain.specs.declared.status.Status.{Status}
 use Rattle.jm_explain.specs.declared.status.Status.TheVariants as ends
@@ -58,15 +59,6 @@ unwritten_line name = codes "jm: " ++ (file_name_text name ++ codes ": not writt
 abbrev pub any_ended_by : List Thread → Bool
 any_ended_by [] = false
 any_ended_by (t ∷ ts) = is_some (class_of_ending t.ending) || any_ended_by ts
-
-abbrev pub stop_status : Stop → Status
-stop_status (TagFault fault) = ends.TagFault
-stop_status HeapFull = ends.HeapFull
-stop_status SerialsEnd = ends.HeapFull
-
-abbrev pub ended_status : Bool → Status
-ended_status true = ends.EndedByException
-ended_status false = ends.Done
 
 abbrev pub thread_status : ℕ → Bool → Status
 thread_status zero ended = ended_status ended

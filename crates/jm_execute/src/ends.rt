@@ -4,12 +4,12 @@ ghost use Rattle.std.specs.Prelude.{◌≡◌, is_some};
 ghost use Rattle.jm_world.specs.World.{World, thread_at};
 ghost use Rattle.jm_machine.specs.Threads.{class_ended_by};
 ghost use Rattle.jm_machine.specs.View.{MatchesWorld};
-ghost use Rattle.jm_execute.specs.Reports.{any_ended_by, status_of, stop_status};
+ghost use Rattle.jm_execute.specs.Reports.{any_ended_by, status_of};
 
 use jm_explain::Status;
+use jm_explore::{ended_status, stop_status};
 use jm_heap::Heap;
 use jm_machine::Machine;
-use jm_world::Stop;
 
 // Whether an exception has ended the thread of a number.
 fn is_ended_by<H: Heap>(machine: &Machine<H>, number: u64) -> bool
@@ -30,16 +30,6 @@ fn any_ended_by<H: Heap>(machine: &Machine<H>) -> bool
     false
 }
 
-pub(crate) fn stop_status(stop: Stop) -> Status
-    ensures { result ≡ stop_status stop }
-{
-    match stop {
-        Stop::TagFault(_) => Status::TagFault,
-        Stop::HeapFull => Status::HeapFull,
-        Stop::SerialsEnd => Status::HeapFull,
-    }
-}
-
 /// The status after a run: of its stop, or else of a thread that has not ended, or else of one that
 /// an exception has ended.
 #[tactic(auto, unfolding(crate::specs::Reports::status_of))]
@@ -51,10 +41,8 @@ pub fn status_of<H: Heap>(machine: &Machine<H>) -> Status
         None => {
             if machine.live() != 0 {
                 Status::NotEnded
-            } else if any_ended_by(machine) {
-                Status::EndedByException
             } else {
-                Status::Done
+                ended_status(any_ended_by(machine))
             }
         }
     }

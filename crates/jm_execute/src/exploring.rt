@@ -1,17 +1,14 @@
 // Searches of the schedules of a program.
 
-ghost use Rattle.std.specs.Prelude.{◌≡◌, ◌∷◌, false, map, IfOk};
-ghost use Rattle.jm_explore.specs.Outcomes.{thrown_of, told_end};
+ghost use Rattle.std.specs.Prelude.{◌≡◌, false, IfOk};
 ghost use Rattle.jm_explore.specs.declared.bounds.Bounds.{Bounds as BoundsModel};
 ghost use Rattle.jm_explore.specs.declared.exploration.Explored.{Explored as ExploredModel};
-ghost use Rattle.jm_explore_text.specs.Explorations.{told_at};
 ghost use Rattle.jm_world.specs.Loading.{loaded_world};
 ghost use Rattle.jm_execute.specs.Endings.{Leaves, LeavesFound, Tells, explored};
-ghost use Rattle.jm_execute.specs.Explorations.{Finds, ended_status, found_text, lack_of, lack_of_outcome, lack_without, one_status, outcome_status, told_status};
+ghost use Rattle.jm_execute.specs.Explorations.{Finds, found_text, lack_of, told_status};
 ghost use Rattle.jm_execute.specs.Written.{words};
 
 use crate::copiers::JobCollector;
-use crate::ends::stop_status;
 use crate::execution::tell_exhausted;
 use crate::preparation::RunHeap;
 use crate::report::{tell_lines, tell_write_failed};
@@ -19,9 +16,9 @@ use crate::watchable::Watchable;
 use crate::watched::Watched;
 use jm_explain::Status;
 use jm_explore::{
-    Bounds, EmptyHeaps, EndedBy, Explored, HowEnded, Outcome, Told, Unfinished, explore,
+    Bounds, EmptyHeaps, Explored, Told, Unfinished, exploration_text, explore, outcome_at,
+    outcome_status, schedule_text,
 };
-use jm_explore_text::{exploration_text, outcome_at, schedule_text};
 use jm_gen_heap::GenHeap;
 use jm_job::ExploreJob;
 use jm_machine::Machine;
@@ -56,79 +53,16 @@ pub enum Lack {
     Outcome,
 }
 
-// What is missing of an outcome of this number.
-fn lack_without(found: &Explored, number: u32) -> Option<Lack>
-    ensures { result ≡ lack_without (told_at number found.now.told.items) }
-{
-    match outcome_at(found, number) {
-        Some(_told) => None,
-        None => Some(Lack::Outcome),
-    }
-}
-
-// Where the search was made to its end: whether there is an outcome of the number that is asked for.
-fn lack_of_outcome(found: &Explored, wanted: Option<u32>) -> Option<Lack>
-    ensures { result ≡ lack_of_outcome found.now.told.items wanted }
-{
-    match wanted {
-        Some(number) => lack_without(found, number),
-        None => None,
-    }
-}
-
 // What a search lacks, if anything.
 fn lack_of(found: &Explored, wanted: Option<u32>) -> Option<Lack>
     ensures { result ≡ lack_of found.now wanted }
 {
-    let lack = lack_of_outcome(found, wanted);
-    match found.unfinished {
-        None => lack,
-        Some(Unfinished::RunsEnd) => lack,
-        Some(Unfinished::OutOfMemory) => Some(Lack::Memory),
-        Some(Unfinished::HeapTooSmall) => lack,
+    if let Some(Unfinished::OutOfMemory) = found.unfinished {
+        return Some(Lack::Memory);
     }
-}
-
-// The status where all threads have ended.
-fn ended_status(ended_by: &[EndedBy]) -> Status
-    ensures { result ≡ ended_status (map thrown_of ended_by.now) }
-{
-    if ended_by.is_empty() {
-        Status::Done
-    } else {
-        Status::EndedByException
-    }
-}
-
-// The status of a run that comes to an outcome.
-fn outcome_status(outcome: &Outcome) -> Status
-    ensures { result ≡ outcome_status (told_end outcome.now) }
-{
-    match outcome.how {
-        HowEnded::Ended => ended_status(&outcome.ended_by),
-        HowEnded::Stopped(stop) => stop_status(stop),
-        HowEnded::Deadlock(_) => Status::NotEnded,
-        HowEnded::Cut => Status::NotEnded,
-    }
-}
-
-// The status where one outcome was found.
-fn one_status(why: Option<Unfinished>, told: &Told) -> Status
-    ensures { result ≡ one_status why told.now }
-{
-    match why {
-        None => outcome_status(&told.outcome),
-        Some(_) => Status::NotAllTried,
-    }
-}
-
-// The status where an outcome was found, and maybe others behind it.
-fn first_status(why: Option<Unfinished>, first: &Told, rest: &[Told]) -> Status
-    ensures { result ≡ told_status why (first.now ∷ rest.now) }
-{
-    match rest.split_first() {
-        None => one_status(why, first),
-        Some(_) => Status::SeveralOutcomes,
+    match outcome_at(found, wanted?) {
+        Some(_) => None,
+        None => Some(Lack::Outcome),
     }
 }
 
@@ -136,9 +70,13 @@ fn first_status(why: Option<Unfinished>, first: &Told, rest: &[Told]) -> Status
 fn told_status(why: Option<Unfinished>, told: &[Told]) -> Status
     ensures { result ≡ told_status why told.now }
 {
-    match told.split_first() {
-        Some((first, rest)) => first_status(why, first, rest),
-        None => Status::NotAllTried,
+    match told {
+        [] => Status::NotAllTried,
+        [one] => match why {
+            None => outcome_status(&one.outcome),
+            Some(_) => Status::NotAllTried,
+        },
+        _ => Status::SeveralOutcomes,
     }
 }
 

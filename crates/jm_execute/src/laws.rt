@@ -16,13 +16,12 @@ ghost use Rattle.jm_debug.specs.declared.fault.DebugFault.TheVariants.{OutOfMemo
 ghost use Rattle.jm_shared.specs.Legal.{world_after};
 ghost use Rattle.jm_shared.specs.declared.entry.Entry.{Entry};
 ghost use Rattle.jm_world.specs.World.{World, live_among};
-ghost use Rattle.jm_explore.specs.Outcomes.{End, end_of, how_ended};
+ghost use Rattle.jm_explore.specs.Outcomes.{end_of, how_ended};
 ghost use Rattle.jm_explore.specs.declared.outcome.HowEnded.TheVariants as how;
-ghost use Rattle.jm_explore_text.specs.OutcomeLines.{outcome_code, outcome_lines};
+ghost use Rattle.jm_explore.specs.OutcomeTexts.{outcome_lines};
+ghost use Rattle.jm_explore.specs.Statuses.{outcome_status};
 ghost use Rattle.jm_execute.specs.CallEnds.{vec_ends};
 ghost use Rattle.jm_execute.specs.Checks.{LoadFrom, all_told, is_one_line};
-ghost use Rattle.jm_explain.specs.Codes.{code_of};
-ghost use Rattle.jm_execute.specs.Explorations.{outcome_status};
 ghost use Rattle.jm_execute.specs.Reports.{report, status_of};
 ghost use Rattle.jm_execute.specs.Endings.{Allows, Ending, IsDone, Leaves, assembled, disassembled, lines_after, output_of};
 ghost use Rattle.jm_execute.specs.ProgramFiles.{FileFault, text_class};
@@ -60,12 +59,11 @@ pub fn text_of_its_class()
 {}
 
 /// What a search tells of an outcome that was not cut is what a run says that comes to its world: the
-/// output and the lines; and of any outcome the status, whose number stands in the text.
+/// output and the lines; and of any outcome the status.
 pub fn an_outcome_is_that_of_its_run()
     ensures output { (w : World) (cut : Bool) → how_ended w.stop (live_among w.threads) cut ≢ how.Cut → (end_of w cut).output ≡ w.output }
     ensures lines { (w : World) (cut : Bool) → how_ended w.stop (live_among w.threads) cut ≢ how.Cut → outcome_lines (end_of w cut) ≡ report w }
     ensures status { (w : World) (cut : Bool) → outcome_status (end_of w cut) ≡ status_of w }
-    ensures code { (e : End) → code_of (outcome_status e) ≡ outcome_code e }
 {}
 
 /// A job that ends with the status of files, and whose output did not fail, has a file that could not

@@ -21,7 +21,6 @@
 //! come from (`jm_events`), `one_worker` makes them, and `workers` those that several choose; `report` and `ends` say how a
 //! run ended. `replaying`, `exploring`, `assembly`, `disassembly` and `session` have the other jobs, the last
 //! over the `lines` of its reader; `told_run` has what a `teller` tells, `checking` and `explanation` what their names say.
-//! [`Utf8`] is a text of code units, as a String's chars and the name of a class are, whose `Display` is the text in UTF-8.
 //! The writer and the reader of class files do not know one another, so [`written_and_read`] stands here: a class that is
 //! written as a class file and read again is that class.
 //!
@@ -78,7 +77,6 @@ pub use files::{bytes_of, check_read};
 pub use film_execution::film;
 pub use finished::Finished;
 pub use jm_explain::Status;
-pub use jm_explore_text::Utf8;
 pub use jm_heap::Kind;
 pub use jm_job::{
     AssembleJob, Contents, Copiers, DebugJob, DisassembleJob, ExploreJob, FilmJob, InputFile, Job,

@@ -1,11 +1,11 @@
 -- What a machine has come to, and whether two outcomes are one.
-use Rattle.std.proofs.Common.{◌≡◌, ◌≢◌, ◌⊎◌, ℕ, zero, suc, ◌+◌, ◌<◌, ◌≤◌, List, [], ◌∷◌, ◌++◌, Option, Some, None, Bool, true, false, length, map, take, slice_get, get_or, set, refl, sym, ap, subst, ◌∙◌, arith, add-one, append_assoc, append-nil, inl, inr}
+use Rattle.std.proofs.Common.{◌≡◌, ◌≢◌, ◌⊎◌, ℕ, zero, suc, ◌+◌, ◌<◌, ◌≤◌, List, [], ◌∷◌, ◌++◌, Option, Some, None, Bool, length, map, take, slice_get, get_or, set, refl, sym, ap, subst, ◌∙◌, arith, add-one, append_assoc, append-nil, inl, inr}
 use Rattle.std.proofs.lemmas.List.{take_more}
 use Rattle.jm_world.specs.World.{World, Thread, live_among, thread_at}
 use Rattle.jm_world.specs.declared.stop.Stop.{Stop}
 use Rattle.jm_world.proofs.RunsOn.{thread_after}
 use Rattle.jm_machine.specs.Threads.{class_of_ending, class_ended_by}
-use Rattle.jm_explore.specs.Outcomes.{End, Thrown, end_of, end_with, found_of, how_ended, how_live, told_end, thrown_by, thrown_from, thrown_of}
+use Rattle.jm_explore.specs.Outcomes.{End, Thrown, end_of, end_with, found_of, how_ended, told_end, thrown_by, thrown_from, thrown_of}
 use Rattle.jm_explore.specs.Searches.{Has, founds}
 use Rattle.jm_explore.specs.declared.outcome.EndedBy.{EndedBy}
 use Rattle.jm_explore.specs.declared.outcome.HowEnded.{HowEnded}
@@ -14,14 +14,6 @@ use Rattle.jm_explore.specs.declared.outcome.Outcome.{Outcome}
 use Rattle.jm_explore.specs.declared.told.Told.{Told}
 
 -- ---- how it ended
-
-pub some_live : (n : ℕ) (cut : Bool) → n ≢ 0 → how_live n cut ≡ elim cut as (λ _. HowEnded) [ true ↦ how.Cut | false ↦ how.Deadlock n ]
-some_live zero cut h = absurd (h refl)
-some_live (suc n) true h = refl
-some_live (suc n) false h = refl
-
-pub none_live : (n : ℕ) (cut : Bool) → n ≡ 0 → how_live n cut ≡ how.Ended
-none_live n cut e = ap (λ k. how_live k cut) e
 
 pub same_how : (w : World) (stop : Option Stop) (live : ℕ) (cut : Bool) → stop ≡ w.stop → live ≡ live_among w.threads → how_ended stop live cut ≡ how_ended w.stop (live_among w.threads) cut
 same_how w stop live cut e f = ap (λ s. how_ended s live cut) e ∙ ap (λ n. how_ended w.stop n cut) f

@@ -10,3 +10,6 @@ pub mod Counting
 pub mod Steps
 pub mod Ends
 pub mod Runs
+pub mod MarkedLines
+pub mod StretchLemmas
+pub mod Spelling

@@ -5,3 +5,8 @@ pub mod Outcomes
 pub mod Counts
 pub mod Branches
 pub mod Searches
+pub mod Marked
+pub mod ScheduleTexts
+pub mod Statuses
+pub mod OutcomeTexts
+pub mod ExplorationTexts

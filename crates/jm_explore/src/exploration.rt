@@ -57,32 +57,16 @@ pub fn explore<H: Heap + Drop, E: EmptyHeaps<H>>(
     ensures linked { machine.new.linked ≡ machine.old.linked }
 {
     let mut progress = nothing_found(alloc, bounds.runs);
-    match search_all(alloc, machine, heaps, &mut progress, bounds) {
-        Ok(()) => {
-            let Progress {
-                told,
-                schedules,
-                runs,
-            } = progress;
-            Explored {
-                told,
-                schedules,
-                runs: bounds.runs - runs,
-                unfinished: None,
-            }
-        }
-        Err(unfinished) => {
-            let Progress {
-                told,
-                schedules,
-                runs,
-            } = progress;
-            Explored {
-                told,
-                schedules,
-                runs: bounds.runs - runs,
-                unfinished: Some(unfinished),
-            }
-        }
+    let unfinished = search_all(alloc, machine, heaps, &mut progress, bounds).err();
+    let Progress {
+        told,
+        schedules,
+        runs,
+    } = progress;
+    Explored {
+        told,
+        schedules,
+        runs: bounds.runs - runs,
+        unfinished,
     }
 }

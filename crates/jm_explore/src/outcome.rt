@@ -4,8 +4,7 @@ ghost use Rattle.std.specs.Prelude.{◌≡◌, ◌≢◌, ◌++◌, IfOk, IsFals
 ghost use Rattle.jm_machine.specs.Threads.{class_ended_by};
 ghost use Rattle.jm_machine.specs.View.{MatchesWorld};
 ghost use Rattle.jm_world.specs.World.{World, thread_at};
-ghost use Rattle.jm_explore.specs.Outcomes.{end_of, how_ended, how_live, thrown_by, thrown_from, thrown_of, told_end};
-ghost use Rattle.jm_explore.specs.declared.outcome.HowEnded.TheVariants as how_variant;
+ghost use Rattle.jm_explore.specs.Outcomes.{end_of, how_ended, thrown_by, thrown_from, thrown_of, told_end};
 
 use jm_heap::Heap;
 use jm_machine::{Machine, OutOfMemory};
@@ -44,36 +43,15 @@ pub struct Outcome {
     pub ended_by: Vec<EndedBy>,
 }
 
-// How a schedule ended whose machine has not stopped, which was cut if a thread has not ended.
-fn how_live(live: usize, cut: bool) -> HowEnded
-    ensures { result ≡ how_live live cut }
-{
-    if live == 0 {
-        return HowEnded::Ended;
-    }
-    if cut {
-        HowEnded::Cut
-    } else {
-        HowEnded::Deadlock(live)
-    }
-}
-
+// How a schedule ended, which was cut or not if so many threads have not ended.
 fn how_ended(stop: Option<Stop>, live: usize, cut: bool) -> HowEnded
     ensures { result ≡ how_ended stop live cut }
 {
     match stop {
         Some(stop) => HowEnded::Stopped(stop),
-        None => how_live(live, cut),
-    }
-}
-
-fn is_cut(how: HowEnded) -> bool
-    ensures cut { IsTrue result → how ≡ how_variant.Cut }
-    ensures other { IsFalse result → how ≢ how_variant.Cut }
-{
-    match how {
-        HowEnded::Cut => true,
-        HowEnded::Ended | HowEnded::Stopped(_) | HowEnded::Deadlock(_) => false,
+        None if live == 0 => HowEnded::Ended,
+        None if cut => HowEnded::Cut,
+        None => HowEnded::Deadlock(live),
     }
 }
 
@@ -127,7 +105,7 @@ pub(crate) fn end_of<H: Heap>(
     ensures { (w : World) → MatchesWorld machine.now w → IfOk result (λ outcome. told_end outcome ≡ end_of w cut) }
 {
     let how = how_ended(machine.stop(), machine.live(), cut);
-    if is_cut(how) {
+    if let HowEnded::Cut = how {
         return Ok(Outcome {
             how,
             output: Vec::new(alloc),

@@ -23,7 +23,7 @@ pub struct Told {
 }
 
 // The index at which an outcome is told.
-fn told_at(told: &[Told], outcome: &Outcome) -> Option<usize>
+fn told_index(told: &[Told], outcome: &Outcome) -> Option<usize>
     ensures { MatchOption result (Has (told_end outcome.now) (founds told.now) → ⊥) (λ index. (index < length told.now) × Has (told_end outcome.now) (founds told.now) × ((d : ToldModel) → told_end (get_or told.now index d).outcome ≡ told_end outcome.now)) }
 {
     for (index, one) in told.iter().enumerate() {
@@ -58,7 +58,7 @@ pub(crate) fn note(
     ensures counts { (weight : End → ℕ) → all_counted told.old.items + schedules < 2 ^ 64 → IfOk result (λ _. weighed weight told.new.items ≡ weighed weight told.old.items + weight (told_end outcome) * schedules) }
     ensures kept { IfErr result (λ _. founds told.new.items ≡ founds told.old.items) }
 {
-    if let Some(index) = told_at(told, &outcome) {
+    if let Some(index) = told_index(told, &outcome) {
         count_more(told, index, schedules);
         drop(outcome);
         return Ok(());

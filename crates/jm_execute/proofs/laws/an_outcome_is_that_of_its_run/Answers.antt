@@ -1,5 +1,5 @@
 -- By how it ended.
-use Rattle.jm_execute.proofs.Outcomes.{code_is, lines_are, output_is, status_is}
+use Rattle.jm_execute.proofs.Outcomes.{lines_are, output_is, status_is}
 use Rattle.jm_execute.proofs.laws.an_outcome_is_that_of_its_run.Goals as goal
 
 pub returns-clause-output : goal.returns-clause-output
@@ -10,6 +10,3 @@ returns-clause-lines c = lines_are
 
 pub returns-clause-status : goal.returns-clause-status
 returns-clause-status c = status_is
-
-pub returns-clause-code : goal.returns-clause-code
-returns-clause-code c = code_is

@@ -1,72 +1,77 @@
 -- What was found so far is true.
-use Rattle.std.proofs.Common.{refl, ◌≤◌, ◌≡◌, ◌∙◌, arith}
+use Rattle.std.proofs.Common.{refl, ◌≤◌, ◌≡◌, ◌∙◌, Result, Ok, Err, Some, None, arith, subst, sym}
+use Rattle.std.specs.Prelude.{IfOk, IfErr, IfSome}
+use Rattle.std.specs.Result.{result_err}
+use Rattle.std.proofs.lemmas.Option.{none-some}
 use Rattle.jm_world.specs.Loading.{loaded_world}
 use Rattle.jm_explore.specs.Outcomes.{HasFewest, IsTrueOf, outcome_of}
 use Rattle.jm_explore.specs.Searches.{founds}
+use Rattle.jm_explore.specs.declared.unfinished.Unfinished.{Unfinished}
+use Rattle.jm_explore.specs.declared.unfinished.Unfinished.TheVariants as unfinished
 use Rattle.jm_explore.proofs.Counting.{all_are_counted, all_shares}
 use Rattle.jm_explore.proofs.Lists.{all_of, any_of}
 use Rattle.jm_explore.proofs.exploration.explore.Goals as goal
 
-pub returns-in-Ok-clause-sound : goal.returns-in-Ok-clause-sound
-returns-in-Ok-clause-sound g c =
+-- an answer without an error
+whole : {T E : Type 0} (P : Type 0) (r : Result T E) → result_err r ≡ None → IfOk r (λ _. P) → P
+whole P (Ok x) is h = h
+whole P (Err why) is h = absurd (none-some why (sym is))
+
+-- the error of an answer
+broken : {T E : Type 0} (P : E → Type 0) (r : Result T E) (why : E) → result_err r ≡ Some why → IfErr r P → P why
+broken P (Ok x) why is h = absurd (none-some why is)
+broken P (Err other) why is h = subst (λ o. IfSome o P) is h
+
+pub returns-clause-sound : goal.returns-clause-sound
+returns-clause-sound g c =
     let w = loaded_world c.args.machine.now.linked.program (g.E.EmptyHeaps.limit c.args.heaps.now) in
     all_of (IsTrueOf w c.args.bounds.slice c.args.bounds.steps) (founds c.search_all.new.progress.told.items) (c.search_all.ensures.known w refl c.nothing_found-progress.ensures.none).sound
 
-pub returns-in-Ok-clause-within : goal.returns-in-Ok-clause-within
-returns-in-Ok-clause-within g c =
+pub returns-clause-within : goal.returns-clause-within
+returns-clause-within g c =
     let w = loaded_world c.args.machine.now.linked.program (g.E.EmptyHeaps.limit c.args.heaps.now) in
     all_of (λ f. f.switches ≤ c.args.bounds.switches) (founds c.search_all.new.progress.told.items) (c.search_all.ensures.known w refl c.nothing_found-progress.ensures.none).low
 
-pub returns-in-Ok-clause-fewest : goal.returns-in-Ok-clause-fewest
-returns-in-Ok-clause-fewest g c =
+pub returns-clause-fewest : goal.returns-clause-fewest
+returns-clause-fewest g c =
     let w = loaded_world c.args.machine.now.linked.program (g.E.EmptyHeaps.limit c.args.heaps.now) in
     all_of (HasFewest w c.args.bounds.slice c.args.bounds.steps) (founds c.search_all.new.progress.told.items) (c.search_all.ensures.known w refl c.nothing_found-progress.ensures.none).fewest
 
-pub returns-in-Ok-clause-other : goal.returns-in-Ok-clause-other
-returns-in-Ok-clause-other g c =
+pub returns-clause-other : goal.returns-clause-other
+returns-clause-other g c =
     let w = loaded_world c.args.machine.now.linked.program (g.E.EmptyHeaps.limit c.args.heaps.now) in
     (c.search_all.ensures.known w refl c.nothing_found-progress.ensures.none).other
 
-pub returns-in-Ok-clause-complete : goal.returns-in-Ok-clause-complete
-returns-in-Ok-clause-complete g c = λ whole ts s.
+pub returns-clause-complete : goal.returns-clause-complete
+returns-clause-complete g c = λ none ts s.
     let w = loaded_world c.args.machine.now.linked.program (g.E.EmptyHeaps.limit c.args.heaps.now) in
-    any_of (λ f. f.outcome ≡ outcome_of w c.args.bounds.steps ts) (founds c.search_all.new.progress.told.items) (c.in-Ok.ensures.complete w refl c.nothing_found-progress.ensures.none ts s)
+    any_of (λ f. f.outcome ≡ outcome_of w c.args.bounds.steps ts) (founds c.search_all.new.progress.told.items)
+    (whole _ c.search_all.result (sym c.err-unfinished.ensures.value ∙ none) (c.search_all.ensures.complete w refl c.nothing_found-progress.ensures.none) ts s)
 
-pub returns-in-Err-clause-sound : goal.returns-in-Err-clause-sound
-returns-in-Err-clause-sound g c =
+pub returns-clause-counts : goal.returns-clause-counts
+returns-clause-counts g c = λ none.
     let w = loaded_world c.args.machine.now.linked.program (g.E.EmptyHeaps.limit c.args.heaps.now) in
-    all_of (IsTrueOf w c.args.bounds.slice c.args.bounds.steps) (founds c.search_all.new.progress.told.items) (c.search_all.ensures.known w refl c.nothing_found-progress.ensures.none).sound
-
-pub returns-in-Err-clause-within : goal.returns-in-Err-clause-within
-returns-in-Err-clause-within g c =
-    let w = loaded_world c.args.machine.now.linked.program (g.E.EmptyHeaps.limit c.args.heaps.now) in
-    all_of (λ f. f.switches ≤ c.args.bounds.switches) (founds c.search_all.new.progress.told.items) (c.search_all.ensures.known w refl c.nothing_found-progress.ensures.none).low
-
-pub returns-in-Err-clause-fewest : goal.returns-in-Err-clause-fewest
-returns-in-Err-clause-fewest g c =
-    let w = loaded_world c.args.machine.now.linked.program (g.E.EmptyHeaps.limit c.args.heaps.now) in
-    all_of (HasFewest w c.args.bounds.slice c.args.bounds.steps) (founds c.search_all.new.progress.told.items) (c.search_all.ensures.known w refl c.nothing_found-progress.ensures.none).fewest
-
-pub returns-in-Err-clause-other : goal.returns-in-Err-clause-other
-returns-in-Err-clause-other g c =
-    let w = loaded_world c.args.machine.now.linked.program (g.E.EmptyHeaps.limit c.args.heaps.now) in
-    (c.search_all.ensures.known w refl c.nothing_found-progress.ensures.none).other
-
-pub returns-in-Ok-clause-counts : goal.returns-in-Ok-clause-counts
-returns-in-Ok-clause-counts g c = λ whole.
-    let w = loaded_world c.args.machine.now.linked.program (g.E.EmptyHeaps.limit c.args.heaps.now) in
-    let k = c.in-Ok.ensures.counted w c.args.bounds.runs refl c.nothing_found-progress.ensures.none c.nothing_found-progress.ensures.tallied in
+    let k = whole _ c.search_all.result (sym c.err-unfinished.ensures.value ∙ none)
+    (c.search_all.ensures.counted w c.args.bounds.runs refl c.nothing_found-progress.ensures.none c.nothing_found-progress.ensures.tallied) in
     k.0.counted ∙ all_are_counted w c.args.bounds.slice c.args.bounds.switches c.args.bounds.steps c.search_all.new.progress.told.items k.1
 
-pub returns-in-Ok-clause-shares : goal.returns-in-Ok-clause-shares
-returns-in-Ok-clause-shares g c = λ whole.
+pub returns-clause-shares : goal.returns-clause-shares
+returns-clause-shares g c = λ none.
     let w = loaded_world c.args.machine.now.linked.program (g.E.EmptyHeaps.limit c.args.heaps.now) in
-    let k = c.in-Ok.ensures.counted w c.args.bounds.runs refl c.nothing_found-progress.ensures.none c.nothing_found-progress.ensures.tallied in
+    let k = whole _ c.search_all.result (sym c.err-unfinished.ensures.value ∙ none)
+    (c.search_all.ensures.counted w c.args.bounds.runs refl c.nothing_found-progress.ensures.none c.nothing_found-progress.ensures.tallied) in
     all_shares w c.args.bounds.slice c.args.bounds.switches c.args.bounds.steps c.search_all.new.progress.told.items (c.search_all.ensures.known w refl c.nothing_found-progress.ensures.none).other k.1
 
-pub returns-in-Ok-clause-made : goal.returns-in-Ok-clause-made
-returns-in-Ok-clause-made g c = λ whole.
+pub returns-clause-made : goal.returns-clause-made
+returns-clause-made g c = λ none.
     let w = loaded_world c.args.machine.now.linked.program (g.E.EmptyHeaps.limit c.args.heaps.now) in
-    let k = c.in-Ok.ensures.counted w c.args.bounds.runs refl c.nothing_found-progress.ensures.none c.nothing_found-progress.ensures.tallied in
+    let k = whole _ c.search_all.result (sym c.err-unfinished.ensures.value ∙ none)
+    (c.search_all.ensures.counted w c.args.bounds.runs refl c.nothing_found-progress.ensures.none c.nothing_found-progress.ensures.tallied) in
     let within = k.0.within in
     omega (arith, within)
+
+pub returns-clause-ends : goal.returns-clause-ends
+returns-clause-ends g c = λ is.
+    let spent = broken (λ (why : Unfinished). why ≡ unfinished.RunsEnd → c.search_all.new.progress.runs ≡ 0) c.search_all.result unfinished.RunsEnd
+    (sym c.err-unfinished.ensures.value ∙ is) c.search_all.ensures.ends refl in
+    omega (arith, spent)

@@ -1,3 +1,0 @@
-mod MarkedLines
-mod StretchLemmas
-mod Spelling

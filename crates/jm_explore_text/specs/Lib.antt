@@ -1,4 +1,0 @@
-pub mod Marked
-pub mod ScheduleTexts
-pub mod OutcomeLines
-pub mod Explorations
