@@ -2,11 +2,11 @@
 use Rattle.std.proofs.Common.{◌≡◌, ℕ, List, Bool, false, refl, sym, ap, subst, ◌∙◌, Result, Ok, Err}
 use Rattle.std.specs.Prelude.{if◌then◌else◌}
 use Rattle.jm_program.specs.declared.class.ClassParts.{ClassParts}
-use Rattle.jm_world.specs.Loading.{first_thread, is_too_small, loaded_world, main_in}
+use Rattle.jm_world.specs.Loading.{is_too_small, loaded_world}
 use Rattle.jm_choice.specs.Choices.{Choice}
 use Rattle.jm_state.specs.Parts.{parts}
 use Rattle.jm_machine.specs.View.{MachineView, MatchesWorld}
-use Rattle.jm_execute.specs.Beginnings.{HasOneThread, StandsAtItsBeginning, beginning}
+use Rattle.jm_execute.specs.Beginnings.{StandsAtItsBeginning, beginning}
 use Rattle.jm_execute.specs.Reasons.{heap_too_small}
 use Rattle.jm_execute.specs.Verdicts.{Cause, Verdict, because, debugs, runs, loaded_program}
 use Rattle.jm_debug.specs.Session.{session_of}
@@ -55,11 +55,6 @@ allowed v program limit choice shows is (disassembled name commented class) h = 
 allowed v program limit choice shows is (answered t) h = absurd h
 allowed v program limit choice shows is exhausted h = tt
 allowed v program limit choice shows is (turned_away reason) h = absurd h
-
--- a loaded world has its main thread
-pub begins_with_main : (program : List ClassParts) (limit : ℕ) → HasOneThread (loaded_world program limit)
-unfolding loaded_world
-begins_with_main program limit = record { thread = first_thread (main_in program); threads = refl; live = refl; goes_on = refl }
 
 -- a session begins where its machine does
 pub session_begins : {H : Type 0} (v : Verdict) (m : MachineView H) (limit : ℕ) (t : Talk) → v ≡ Ok (debugs m.linked.program limit) → m.content.limit ≡ limit → t.first ≡ session_of (beginning m) → Debugs v t

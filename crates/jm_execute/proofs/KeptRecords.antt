@@ -1,30 +1,30 @@
 -- What is kept of a run that was made whole, from a journal to the files.
 use Rattle.std.specs.declared.alloc.Global.{Global}
-use Rattle.std.proofs.Common.{sym, subst, ◌≡◌, ℕ, List, Option, Some, None, Bool, true, false, Result, Ok, Err, Vec, MatchResult, OnOk}
-use Rattle.std.specs.List.{All}
+use Rattle.std.proofs.Common.{sym, subst, ◌≡◌, ℕ, List, Option, Some, None, Bool, true, false, Ok, Vec}
 use Rattle.jm_program.specs.declared.class.ClassParts.{ClassParts}
 use Rattle.jm_heap.specs.declared.heap.Kind.{Kind}
 use Rattle.jm_world.specs.Loading.{loaded_world}
 use Rattle.jm_world.specs.World.{World}
 use Rattle.jm_world.specs.declared.event.Event.{Event}
-use Rattle.jm_shared.specs.Legal.{IsLegal, events_of, world_after}
+use Rattle.jm_shared.specs.Legal.{world_after}
 use Rattle.jm_shared.specs.Records.{record_text}
 use Rattle.jm_shared.specs.declared.entry.Entry.{Entry}
 use Rattle.jm_choice.specs.Choices.{Choice, listed}
 use Rattle.jm_job.specs.declared.job.Job.{Job}
-use Rattle.jm_execute.specs.Collecting.{IsOwnOrCollects, own_seat, with_collections}
-use Rattle.jm_execute.specs.Endings.{Ending, completed, interrupted, differed, explored, assembled, disassembled, answered, exhausted, turned_away, EndsIn, IsDone, Leaves}
+use Rattle.jm_execute.specs.Endings.{Ending, completed, interrupted, differed, explored, assembled, disassembled, answered, exhausted, turned_away, Ends, EndsIn, IsDone, Leaves}
 use Rattle.jm_execute.specs.KeptRecords.{IsFinished, IsJournal, IsKept, IsKeptIf, IsRecord, IsRecordOf, JobKeeps, made_whole}
 use Rattle.jm_execute.specs.Verdicts.{Verdict, runs, verdict}
 use Rattle.jm_execute.specs.Written.{Watch, Reads, Words}
 use Rattle.jm_execute.specs.declared.finished.Finished.{Finished}
 use Rattle.jm_explain.specs.declared.status.Status.{Status}
 
--- the journal of a worker that has its machine for itself, where all was made
-pub its_journal : {T E : Type 0} (P : E → Type 0) (r : Result T E) (stress : Option Kind) (first : World) (events : List Event) (entries : List Entry) → IsLegal first entries
-    → All (IsOwnOrCollects (own_seat stress)) entries → MatchResult r (λ _. events_of entries ≡ with_collections stress events) P → OnOk r (IsJournal stress first (listed events) entries)
-its_journal P (Ok x) stress first events entries legal known all = (legal, known, all)
-its_journal P (Err e) stress first events entries legal known part = tt
+-- a run by the same events
+pub run_of : {O E : Type 0} (o : Words O) (w : Words E) (shows wanted : Bool) (stress : Option Kind) (first : World) (events others : List Event) (f : Finished) (out new_out : Watch O) (err new_err : Watch E)
+    → events ≡ others
+    → (e : Ending) × Ends shows first (listed events) e × Leaves o w e f.status out new_out err new_err × IsKeptIf (made_whole e) wanted (IsRecord stress first (listed events)) f.record_text
+    → (e : Ending) × Ends shows first (listed others) e × Leaves o w e f.status out new_out err new_err × IsKeptIf (made_whole e) wanted (IsRecord stress first (listed others)) f.record_text
+run_of o w shows wanted stress first events others f out new_out err new_err same run =
+    subst (λ es. (e : Ending) × Ends shows first (listed es) e × Leaves o w e f.status out new_out err new_err × IsKeptIf (made_whole e) wanted (IsRecord stress first (listed es)) f.record_text) same run
 
 -- what holds of each text that is kept
 kept_as : (wanted : Bool) (kept : Option (Vec ℕ Global)) {P Q : List ℕ → Type 0} → ((text : List ℕ) → P text → Q text) → IsKept wanted P kept → IsKept wanted Q kept

@@ -1,8 +1,5 @@
 mod Writing
 mod LineLemmas
-mod Turns
-mod Receipts
-mod Folds
 mod Threads
 mod Texts
 mod Chains
@@ -21,15 +18,9 @@ mod Statuses
 mod Outcomes
 mod Searching
 mod Rooms
-mod RobinLemmas
-mod PassLemmas
 mod KeptRecords
-mod Lefts
-mod DoneEvents
-mod RobinSteps
-mod ManyReceipts
 mod Woven
-mod SoleTurns
+mod Making
 mod ToldVerdicts
 mod TextsTold
 pub mod Calls

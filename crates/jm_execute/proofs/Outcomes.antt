@@ -3,7 +3,6 @@ use Rattle.std.proofs.Common.{◌≡◌, ◌≢◌, ℕ, zero, suc, List, [], �
 use Rattle.std.specs.Prelude.{is_some, ◌||◌}
 use Rattle.jm_world.specs.World.{World, Thread, live_among}
 use Rattle.jm_world.specs.declared.stop.Stop.{Stop}
-use Rattle.jm_world.specs.declared.stop.Stop.TheVariants.{TagFault, HeapFull, SerialsEnd}
 use Rattle.jm_machine.specs.Threads.{class_of_ending}
 use Rattle.jm_explore.specs.Outcomes.{Thrown, end_of, end_with, how_ended, thrown_by, thrown_from}
 use Rattle.jm_explore.specs.declared.outcome.HowEnded.{HowEnded}
@@ -38,19 +37,14 @@ status_is w cut = by_status w.stop (live_among w.threads) cut w
 one_line : (n : ℕ) (class : Option (List ℕ)) (rest : List Thrown) (text : List ℕ) → told.thrown_lines rest ≡ text
     → told.thrown_lines (thrown_by n class ++ rest) ≡ run.thread_line n class ++ text
 one_line n None rest text same = same
-one_line n (Some class) rest text same = ap (λ (t : List ℕ). run.ended_line n class ++ t) same
+one_line n (Some class) rest text same = ap (λ (t : List ℕ). line.ended_line n class ++ t) same
 
 all_lines : (n : ℕ) (ts : List Thread) → told.thrown_lines (thrown_from n ts) ≡ run.thread_lines n ts
 all_lines n [] = refl
 all_lines n (t ∷ ts) = one_line n (class_of_ending t.ending) (thrown_from (n + 1) ts) (run.thread_lines (n + 1) ts) (all_lines (n + 1) ts)
 
-same_stop : (stop : Stop) → line.stop_text stop ≡ run.stop_text stop
-same_stop (TagFault fault) = refl
-same_stop HeapFull = refl
-same_stop SerialsEnd = refl
-
 stop_line : (stop : Stop) → told.last_line (how.Stopped stop) ≡ run.last_line (Some stop) 0
-stop_line stop = ap (λ (t : List ℕ). codes "jm: " ++ (t ++ codes "\n")) (same_stop stop)
+stop_line stop = refl
 
 live_lines : (n : ℕ) → told.last_line (how.Deadlock (suc n)) ≡ run.live_line (suc n)
 live_lines n = refl

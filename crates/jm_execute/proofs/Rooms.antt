@@ -42,13 +42,13 @@ does_not_fail contents says e ended out new_out err new_err room leaves =
     false_where_not_true new_out.failed fails
 
 -- the lines behind an output that was written
-pub lines_do_not_fail : {A O : Type 0} (contents : Vec ℕ A → Option (List ℕ)) (says : Words O) (e : Ending) (lines : List ℕ) (ended : Status) (out new_out : Watch O) (err new_err : Watch (Vec ℕ A))
-    → lines_after e ≡ Some lines → new_out.failed ≡ false → vec_len err.inner + length lines ≤ vec_capacity err.inner → Leaves says (words contents vec_ends) e ended out new_out err new_err
+pub lines_do_not_fail : {A O : Type 0} (contents : Vec ℕ A → Option (List ℕ)) (says : Words O) (e : Ending) (ended : Status) (out new_out : Watch O) (err new_err : Watch (Vec ℕ A))
+    → new_out.failed ≡ false → vec_len err.inner + length (lines_after e) ≤ vec_capacity err.inner → Leaves says (words contents vec_ends) e ended out new_out err new_err
     → new_err.failed ≡ false
-lines_do_not_fail contents says e lines ended out new_out err new_err are whole room leaves =
+lines_do_not_fail contents says e ended out new_out err new_err whole room leaves =
     let w = words contents vec_ends in
     let told = told_whole says w e ended out new_out err new_err whole leaves in
     let fails : new_err.failed ≡ true → ⊥ = λ failed.
-    let broken = subst (λ b. LinesTold w (Some lines) b err new_err) failed (subst (λ (said : Option (List ℕ)). LinesTold w said new_err.failed err new_err) are told.1) in
-    room_for contents err new_err lines room broken in
+    let broken = subst (λ b. LinesTold w (Some (lines_after e)) b err new_err) failed told.1 in
+    room_for contents err new_err (lines_after e) room broken in
     false_where_not_true new_err.failed fails

@@ -131,17 +131,17 @@ status_after (answered t) = close_status t.close
 status_after exhausted = ends.OutOfMemory
 status_after (turned_away reason) = reason_status reason
 
--- the lines on standard error, where definitions say what they are
-abbrev pub lines_after : Ending → Option (List ℕ)
-lines_after (completed shows w) = Some (report w ++ heap_shown shows w)
-lines_after (interrupted w) = Some memory_line
-lines_after (differed line w) = Some (differs_line line)
-lines_after (explored b found wanted) = Some (found_lines found wanted)
-lines_after (assembled bytes) = Some []
-lines_after (disassembled name commented class) = Some (unsaid_line name (first_unsaid class))
-lines_after (answered t) = Some []
-lines_after exhausted = Some memory_line
-lines_after (turned_away reason) = Some (reason_line reason)
+-- the lines on standard error
+abbrev pub lines_after : Ending → List ℕ
+lines_after (completed shows w) = report w ++ heap_shown shows w
+lines_after (interrupted w) = memory_line
+lines_after (differed line w) = differs_line line
+lines_after (explored b found wanted) = found_lines found wanted
+lines_after (assembled bytes) = []
+lines_after (disassembled name commented class) = unsaid_line name (first_unsaid class)
+lines_after (answered t) = []
+lines_after exhausted = memory_line
+lines_after (turned_away reason) = reason_line reason
 
 -- the lines where the output could not be written whole; the name of a class file's output stands in no ending
 abbrev pub lines_at_failure : Ending → Option (List ℕ)
@@ -191,7 +191,7 @@ FailureTold says false old new = new ≡ old
 
 -- the status is the ending's, and its lines are told
 abbrev pub Tells : {W : Type 0} → Words W → Ending → Status → Watch W → Watch W → Type 0
-Tells says e status err new_err = (status ≡ status_after e) × LinesTold says (lines_after e) new_err.failed err new_err
+Tells says e status err new_err = (status ≡ status_after e) × LinesTold says (Some (lines_after e)) new_err.failed err new_err
 
 abbrev pub LeavesIf : {O E : Type 0} → Bool → Words O → Words E → Ending → Status → Watch O → Watch O → Watch E → Watch E → Type 0
 LeavesIf false o w e status out new_out err new_err = AllWritten o out new_out (output_of e) × Tells w e status err new_err

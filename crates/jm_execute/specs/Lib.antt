@@ -3,11 +3,9 @@ pub mod Written
 pub mod Lines
 pub mod LineReading
 pub mod Reports
-pub mod Turns
 pub mod Collecting
+pub mod Making
 pub mod Sources
-pub mod Passes
-pub mod Standings
 pub mod Beginnings
 pub mod FileNames
 pub mod ProgramFiles

@@ -1,23 +1,19 @@
 -- What standard error says of a run, and with which status the program ends.
 use Rattle.std.specs.Prelude.{ℕ, zero, suc, ◌+◌, List, [], ◌∷◌, ◌++◌, Option, Some, None, Bool, true, false, codes, is_some, ◌||◌}
 use Rattle.std.specs.Fmt.{decimal}
-use Rattle.jm_program.specs.JasminUnits.{name_text}
-use Rattle.jm_values.specs.FaultNames.{fault_name}
 use Rattle.jm_world.specs.World.{World, Thread, live_among}
 use Rattle.jm_world.specs.declared.stop.Stop.{Stop}
 use Rattle.jm_debug.specs.Session.{bytes_of}
 use Rattle.jm_debug.specs.Views.{heap_lines}
 use Rattle.jm_world.specs.declared.stop.Stop.TheVariants.{TagFault, HeapFull, SerialsEnd}
+use Rattle.jm_machine.specs.EndTexts.{ended_line, stop_text}
 use Rattle.jm_machine.specs.Threads.{class_of_ending}
 use Rattle.jm_explore.specs.Statuses.{ended_status, stop_status}
 use Rattle.jm_execute.specs.FileNames.{file_name_text}
 use Rattle.jm_explain.specs.declared.status.Status.{Status}
 use Rattle.jm_explain.specs.declared.status.Status.TheVariants as ends
 
--- a thread that an exception has ended
-abbrev pub ended_line : ℕ → List ℕ → List ℕ
-ended_line number class = codes "jm: thread " ++ (decimal number ++ (codes " ended by " ++ (name_text class ++ codes "\n")))
-
+-- the line of a thread that an exception has ended
 abbrev pub thread_line : ℕ → Option (List ℕ) → List ℕ
 thread_line number None = []
 thread_line number (Some class) = ended_line number class
@@ -26,11 +22,6 @@ thread_line number (Some class) = ended_line number class
 abbrev pub thread_lines : ℕ → List Thread → List ℕ
 thread_lines number [] = []
 thread_lines number (t ∷ ts) = thread_line number (class_of_ending t.ending) ++ thread_lines (number + 1) ts
-
-abbrev pub stop_text : Stop → List ℕ
-stop_text (TagFault fault) = codes "60 TagFault(" ++ fault_name fault ++ codes ")"
-stop_text HeapFull = codes "62 HeapFull"
-stop_text SerialsEnd = codes "64 SerialsEnd"
 
 -- how many threads have not ended, if any
 abbrev pub live_line : ℕ → List ℕ

@@ -125,29 +125,29 @@ telling_status tells (told r) = status_of (last_world tells r)
 telling_status tells (cut_short front) = ends.OutOfMemory
 telling_status tells (turned_away reason) = reason_status reason
 
-abbrev pub telling_lines : Telling → TellingEnding → Option (List ℕ)
-telling_lines tells (told r) = Some (report (last_world tells r))
-telling_lines tells (cut_short front) = Some memory_line
-telling_lines tells (turned_away reason) = Some (reason_line reason)
+abbrev pub telling_lines : Telling → TellingEnding → List ℕ
+telling_lines tells (told r) = report (last_world tells r)
+telling_lines tells (cut_short front) = memory_line
+telling_lines tells (turned_away reason) = reason_line reason
 
 -- ---- what is left behind
 
 -- a status, and lines
-abbrev pub Says : {W : Type 0} → Words W → Status → Option (List ℕ) → Status → Watch W → Watch W → Type 0
-Says says wanted lines status err new_err = (status ≡ wanted) × LinesTold says lines new_err.failed err new_err
+abbrev pub Says : {W : Type 0} → Words W → Status → List ℕ → Status → Watch W → Watch W → Type 0
+Says says wanted lines status err new_err = (status ≡ wanted) × LinesTold says (Some lines) new_err.failed err new_err
 
 abbrev pub SaysEnding : {W : Type 0} → Words W → Telling → TellingEnding → Status → Watch W → Watch W → Type 0
 SaysEnding says tells e status err new_err = Says says (telling_status tells e) (telling_lines tells e) status err new_err
 
 -- how the run has ended is told, or memory was refused to the lines that tell it
 abbrev pub EndTold : {W : Type 0} → Words W → World → Status → Watch W → Watch W → Type 0
-EndTold says w status err new_err = Says says (status_of w) (Some (report w)) status err new_err ⊎ Says says ends.OutOfMemory (Some memory_line) status err new_err
+EndTold says w status err new_err = Says says (status_of w) (report w) status err new_err ⊎ Says says ends.OutOfMemory memory_line status err new_err
 
 -- what is said once a text was written, or was not, in the world behind its events
 abbrev pub TextTold : {A W : Type 0} → Words W → Result A PageFault → World → Status → Watch W → Watch W → Type 0
 TextTold says (Ok a) w status err new_err = EndTold says w status err new_err
-TextTold says (Err page.OutOfMemory) w status err new_err = Says says ends.OutOfMemory (Some memory_line) status err new_err
-TextTold says (Err page.WriteFailed) w status err new_err = Says says ends.Files (Some failure_line) status err new_err
+TextTold says (Err page.OutOfMemory) w status err new_err = Says says ends.OutOfMemory memory_line status err new_err
+TextTold says (Err page.WriteFailed) w status err new_err = Says says ends.Files failure_line status err new_err
 
 -- a write failed at a beginning of a text
 abbrev pub BrokenWithin : {W : Type 0} → Words W → List ℕ → Watch W → Watch W → Type 0
@@ -156,7 +156,7 @@ BrokenWithin says text old new = (front : List ℕ) × Begins front text × Brok
 abbrev pub TellingLeavesIf : {O E : Type 0} → Bool → Words O → Words E → Telling → TellingEnding → Status → Watch O → Watch O → Watch E → Watch E → Type 0
 TellingLeavesIf false o w tells e status out new_out err new_err = AllWritten o out new_out (telling_output tells e) × SaysEnding w tells e status err new_err
 TellingLeavesIf true o w tells e status out new_out err new_err =
-    BrokenWithin o (telling_output tells e) out new_out × Says w ends.Files (Some failure_line) status err new_err
+    BrokenWithin o (telling_output tells e) out new_out × Says w ends.Files failure_line status err new_err
 
 -- The text is written, then the lines, and the status is the ending's. Where a write of the text failed, a beginning of it stands, and the status
 -- says so.

@@ -6,14 +6,14 @@ use Rattle.jm_bytes.specs.Reading.{and_then, fault_as}
 use Rattle.jm_program.specs.declared.class.ClassParts.{ClassParts}
 use Rattle.jm_class_writer.specs.ClassParts.{written}
 use Rattle.jm_world.specs.Loading.{is_too_small, loaded_world}
-use Rattle.jm_world.specs.Loads.{Refusal, refusal, duplicate_class, no_class, cycle, no_field, no_method, wrong_kind, no_main, duplicate_member}
+use Rattle.jm_world.specs.Loads.{refusal}
 use Rattle.jm_world.specs.RoundRobin.{robin}
 use Rattle.jm_world.specs.Schedules.{Entry, record_entries, schedule}
 use Rattle.jm_world.specs.World.{World}
 use Rattle.jm_choice.specs.Choices.{Choice, by_workers, listed, recorded}
 use Rattle.jm_world.specs.declared.event.Event.{Event}
+use Rattle.jm_linker.specs.Findings.{load_fault}
 use Rattle.jm_linker.specs.declared.fault.LinkFault.{LinkFault}
-use Rattle.jm_linker.specs.declared.fault.LinkFault.TheVariants as link
 use Rattle.jm_job.specs.declared.job.Contents.{Contents}
 use Rattle.jm_job.specs.declared.job.Contents.TheVariants.{Bytes, NotRead, OutOfMemory}
 use Rattle.jm_job.specs.declared.job.InputFile.{InputFile}
@@ -117,17 +117,6 @@ classes_of (file ∷ files) = do
   Ok (class ∷ classes)
 
 -- ---- linking
-
--- the fault that says why a program does not load
-abbrev pub load_fault : Refusal → LinkFault
-load_fault (duplicate_class name) = link.DuplicateClass name
-load_fault (duplicate_member name) = link.DuplicateMember name
-load_fault (no_class name) = link.NoClass name
-load_fault (cycle name) = link.Cycle name
-load_fault (no_field name) = link.NoField name
-load_fault (no_method name) = link.NoMethod name
-load_fault (wrong_kind name) = link.WrongKind name
-load_fault no_main = link.NoMain
 
 -- why the classes are not linked, if they are not
 abbrev pub link_fault : List ClassParts → Option LinkFault

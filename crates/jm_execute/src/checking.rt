@@ -1,6 +1,6 @@
 // What `jm check` does.
 
-ghost use Rattle.std.specs.Prelude.{◌≡◌, ◌++◌, Some, false, IfOk, OnOk, codes, string_bytes};
+ghost use Rattle.std.specs.Prelude.{◌≡◌, ◌++◌, Some, false, IfOk, OnOk, string_bytes};
 ghost use Rattle.jm_execute.specs.Checks.{Checks, ChecksIfThereIsMemory, all_told, class_held, classes_held, main_class_of, refused_line, refused_lines};
 ghost use Rattle.jm_execute.specs.Reasons.{reason_says};
 ghost use Rattle.jm_execute.specs.Refusals.{reason_of};
@@ -41,14 +41,6 @@ struct Seen {
     main: MainClass,
 }
 
-// Writes the line of a file that holds no class.
-fn note_refused(refused: &mut String, refusal: Refusal<'_>) -> Result<(), AllocError>
-    ensures { OnOk result (string_bytes refused.new ≡ string_bytes refused.old ++ (reason_says (reason_of refusal.entry) ++ codes "\n")) }
-{
-    let file = FileRefused(refusal);
-    write!(refused, "{file}\n")
-}
-
 // Looks at one more file.
 fn see_file(alloc: Global, seen: &mut Seen, file: &InputFile) -> Result<(), AllocError>
     ensures classes { OnOk result (seen.new.classes.items ≡ seen.old.classes.items ++ class_held (class_of file.now)) }
@@ -60,7 +52,10 @@ fn see_file(alloc: Global, seen: &mut Seen, file: &InputFile) -> Result<(), Allo
             seen.classes.push(class)?;
             Ok(())
         }
-        Err(Obstacle::Refused(refusal)) => note_refused(&mut seen.refused, refusal),
+        Err(Obstacle::Refused(refusal)) => {
+            let file = FileRefused(refusal);
+            write!(seen.refused, "{file}\n")
+        }
         Err(Obstacle::OutOfMemory) => Err(AllocError),
     }
 }

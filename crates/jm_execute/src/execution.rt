@@ -1,48 +1,46 @@
 // What `jm run`, `jm replay`, `jm explore`, `jm asm`, `jm dis` and `jm debug` do.
 
-ghost use Rattle.std.specs.Prelude.{◌≡◌, ◌++◌, ◌⊎◌, [], ℕ, List, Bool, None, Some, false, true, IfOk, MatchResult, OnOk, string_bytes};
+ghost use Rattle.std.specs.Prelude.{◌≡◌, ◌++◌, ◌⊎◌, [], ℕ, List, Bool, None, Result, Some, false, IfOk, MatchResult, OnOk, string_bytes};
 ghost use Rattle.jm_machine.specs.View.{MatchesWorld};
-ghost use Rattle.jm_shared.specs.Legal.{events_of, world_after};
+ghost use Rattle.jm_shared.specs.Legal.{world_after};
 ghost use Rattle.jm_world.specs.World.{World};
-ghost use Rattle.jm_choice.specs.Choices.{Choice, Makes, MakesSome, RunEnds, all_made, cut_short, listed};
-ghost use Rattle.jm_execute.specs.Beginnings.{HasOneThread, beginning};
+ghost use Rattle.jm_choice.specs.Choices.{Choice, RunEnds, all_made, cut_short, listed};
+ghost use Rattle.jm_execute.specs.Beginnings.{beginning};
 ghost use Rattle.jm_program.specs.declared.class.ClassParts.{ClassParts};
 ghost use Rattle.jm_disassembler.specs.Texts.{class_text};
 ghost use Rattle.jm_disassembler.specs.Unsaid.{first_unsaid};
 ghost use Rattle.jm_execute.specs.ClassTexts.{unsaid_line};
 ghost use Rattle.jm_execute.specs.Endings.{Ending, assembled, completed, disassembled, exhausted, interrupted, output_of, turned_away, Allows, Ends, EndsIn, FailureTold, IsDone, IsDoneUnread, IsTalk, Leaves, LinesTold, Tells};
-ghost use Rattle.jm_debug.specs.Session.{session_of};
 ghost use Rattle.jm_execute.specs.Reasons.{reason_line};
 ghost use Rattle.jm_execute.specs.Reports.{heap_shown, report};
-ghost use Rattle.jm_execute.specs.Sources.{choice_made};
-ghost use Rattle.jm_execute.specs.Collecting.{with_collections};
-ghost use Rattle.jm_execute.specs.Turns.{AreReplies, Records, RecordsPart};
+ghost use Rattle.jm_execute.specs.Sources.{choice_made, events_made};
 ghost use Rattle.jm_execute.specs.KeptRecords.{IsFinished, IsJournal, IsKept, IsKeptIf, IsRecord, IsRecordOf, made_whole};
 ghost use Rattle.jm_shared.specs.Records.{record_text};
-ghost use Rattle.jm_execute.specs.Talks.{IsHeld};
 ghost use Rattle.jm_execute.specs.Refusals.{Hinders, reason_of};
-ghost use Rattle.jm_execute.specs.Verdicts.{Verdict, assembly_verdict, debug_verdict, disassembly_verdict, explore_verdict, replay_verdict, run_verdict, verdict};
+ghost use Rattle.jm_execute.specs.Tellings.{SaysEnding, Telling, TellingAllows, TellingEnding, ToldRun, telling_output};
+ghost use Rattle.jm_execute.specs.Verdicts.{Cause, Verdict, assembly_verdict, debug_verdict, disassembly_verdict, explore_verdict, replay_verdict, run_verdict, verdict};
 ghost use Rattle.jm_execute.specs.Written.{reads, words};
 
 use crate::assembly::assemble_file;
 use crate::copiers::{JobCollector, job_collector};
 use crate::disassembly::{ClassText, disassemble_file, unsaid_line, unsaid_status};
 use crate::ends::status_of;
-use crate::events::{EventSource, RunPlan};
+use crate::events::{RunPlan, RunSource};
 use crate::exploring::run_exploration;
 use crate::finished::Finished;
+use crate::one_worker::make_journal;
 use crate::preparation::{prepare, prepare_exploration, prepare_replay, prepare_session};
 use crate::readable::Readable;
 use crate::refusal::{Obstacle, Refusal};
 use crate::replaying::run_replay;
 use crate::report::{end_text, tell_lines, tell_unwritten, tell_write_failed, write_out_of_memory};
 use crate::session::answer_lines;
-use crate::sole_worker::SoleWorker;
 use crate::watchable::Watchable;
 use crate::watched::Watched;
 use crate::workers::run_by_workers;
 use jm_copy::Collector;
 use jm_debug::Debugger;
+use jm_events::{EventsDue, Scheduled, Turns};
 use jm_explain::Status;
 use jm_heap::{Heap, Kind};
 use jm_job::{AssembleJob, DebugJob, DisassembleJob, ExploreJob, Job, ReplayJob, RunJob};
@@ -62,18 +60,6 @@ pub(crate) struct Wanted {
     pub is_recorded: bool,
     /// Collections of a kind between the events of one worker.
     pub stress: Option<Kind>,
-}
-
-fn wanted_of(job: &RunJob) -> Wanted
-    ensures shows { result.show_heap ≡ job.now.show_heap }
-    ensures recorded { result.is_recorded ≡ job.now.is_recorded }
-    ensures stress { result.stress ≡ job.now.stress }
-{
-    Wanted {
-        show_heap: job.show_heap,
-        is_recorded: job.is_recorded,
-        stress: job.stress,
-    }
 }
 
 // Tells of a run whose events were all made, by the lines of its end.
@@ -125,7 +111,7 @@ pub(crate) fn tell_interrupted<H: Heap, O: Watchable, E: Watchable>(
 
 // Tells of a run whose events were all made. The lines of its end are made before anything is
 // written; where a growth is refused then, the run is told of as at an event.
-pub(crate) fn tell_run<H: Heap, O: Watchable, E: Watchable>(
+pub(crate) fn tell_end<H: Heap, O: Watchable, E: Watchable>(
     alloc: Global,
     machine: &Machine<H>,
     show_heap: bool,
@@ -212,70 +198,22 @@ fn tell_made<H: Heap, R: Origin, O: Watchable, E: Watchable>(
     }
 }
 
-/// A journal, and whether a growth was refused before its events were all made.
-pub type Made<H, N> = (Journal<H, N>, Result<(), OutOfMemory>);
-
-// Makes the events of a source, and the collection behind the last one, where such are made.
-fn make_all<S: EventSource, H: Heap, R: Origin>(
-    alloc: Global,
-    source: &S,
-    worker: &mut SoleWorker<H, R>,
-) -> Result<(), OutOfMemory>
-    requires begins { HasOneThread R.first }
-    requires fresh { worker.old.receipts ≡ [] }
-    ensures made { AreReplies R.first worker.new.receipts →
-        MatchResult result (λ _. Records [] worker.new.receipts (S.events source.now R.first)) (λ _. RecordsPart [] worker.new.receipts (S.events source.now R.first)) }
-    ensures collected { OnOk result (worker.new.collected ≡ true) }
-    ensures stress { worker.new.stress ≡ worker.old.stress }
-{
-    match source.make_events(alloc, worker) {
-        Ok(()) => worker.collect(),
-        Err(fault) => Err(fault),
-    }
-}
-
-/// Makes the events of a source from a machine's beginning on, one after the other on this thread, as
-/// turns of seat 0, and gives the journal. It waits for nobody and starts no thread, so it returns.
-/// Where a kind of collections is given, one is made before each event and one behind the last, as turns
-/// of seat 0, and the events are turns of seat 1: the journal has them all in this order, and no other. A
-/// collection changes nothing of a world, so the journal leads to the world of the events.
-/// `OutOfMemory`: a growth was refused, and the journal has the events that were made, with those
-/// collections.
-pub fn make_journal<S: EventSource, H: Heap + Drop, R: Origin>(
-    alloc: Global,
-    machine: Machine<H>,
-    source: &S,
-    stress: Option<Kind>,
-) -> Made<H, R>
-    requires first { MatchesWorld machine R.first }
-    requires begins { HasOneThread R.first }
-    ensures events { let choice = listed (with_collections stress (S.events source.now R.first)) in
-        MatchResult result.1 (λ _. Makes R.first choice (events_of result.0.entries)) (λ _. MakesSome R.first choice (events_of result.0.entries)) }
-    ensures ends { let choice = listed (S.events source.now R.first) in let w = world_after R.first result.0.entries in
-        MatchResult result.1 (λ _. RunEnds R.first choice (all_made w)) (λ _. RunEnds R.first choice (cut_short w)) }
-    ensures journal { OnOk result.1 (IsJournal stress R.first (listed (S.events source.now R.first)) result.0.entries) }
-{
-    let mut worker = SoleWorker::new(alloc, machine, stress);
-    let made = make_all(alloc, source, &mut worker);
-    (worker.into_journal(), made)
-}
-
 // Makes the events of a source from the first world on, and tells of the run.
-fn run_events<S: EventSource, H: Heap + Drop, R: Origin, O: Watchable, E: Watchable>(
+fn run_events<S: EventsDue, H: Heap + Drop, R: Origin, O: Watchable, E: Watchable>(
     alloc: Global,
     machine: Machine<H>,
-    source: &S,
+    source: &mut S,
     wanted: Wanted,
     out: &mut Watched<O>,
     err: &mut Watched<E>,
 ) -> Finished
     requires first { MatchesWorld machine R.first }
-    requires begins { HasOneThread R.first }
+    requires knows { S.knows source.old R.first }
     requires out { out.old.failed ≡ false }
     requires err { err.old.failed ≡ false }
-    ensures { (e : Ending) × Ends wanted.show_heap R.first (listed (S.events source.now R.first)) e
+    ensures { (e : Ending) × Ends wanted.show_heap R.first (listed (S.due source.old R.first)) e
         × Leaves (words O.contents O.ends) (words E.contents E.ends) e result.status out.old out.new err.old err.new
-        × IsKeptIf (made_whole e) wanted.is_recorded (IsRecord wanted.stress R.first (listed (S.events source.now R.first))) result.record_text }
+        × IsKeptIf (made_whole e) wanted.is_recorded (IsRecord wanted.stress R.first (listed (S.due source.old R.first))) result.record_text }
 {
     let (journal, made) = make_journal::<S, H, R>(alloc, machine, source, wanted.stress);
     let finished = tell_made(alloc, &journal, made, wanted, out, err);
@@ -284,10 +222,10 @@ fn run_events<S: EventSource, H: Heap + Drop, R: Origin, O: Watchable, E: Watcha
 }
 
 // Makes the events of a source from a machine's beginning on, by one worker, and tells of the run.
-fn run_by_one_worker<S: EventSource, H: Heap + Drop, O: Watchable, E: Watchable>(
+fn run_by_one_worker<H: Heap + Drop, O: Watchable, E: Watchable>(
     alloc: Global,
     machine: Machine<H>,
-    source: &S,
+    source: &RunSource,
     wanted: Wanted,
     out: &mut Watched<O>,
     err: &mut Watched<E>,
@@ -295,11 +233,27 @@ fn run_by_one_worker<S: EventSource, H: Heap + Drop, O: Watchable, E: Watchable>
     requires first { MatchesWorld machine (beginning machine) }
     requires out { out.old.failed ≡ false }
     requires err { err.old.failed ≡ false }
-    ensures { (e : Ending) × Ends wanted.show_heap (beginning machine) (listed (S.events source.now (beginning machine))) e
+    ensures { (e : Ending) × Ends wanted.show_heap (beginning machine) (listed (events_made source.now (beginning machine))) e
         × Leaves (words O.contents O.ends) (words E.contents E.ends) e result.status out.old out.new err.old err.new
-        × IsKeptIf (made_whole e) wanted.is_recorded (IsRecord wanted.stress (beginning machine) (listed (S.events source.now (beginning machine)))) result.record_text }
+        × IsKeptIf (made_whole e) wanted.is_recorded (IsRecord wanted.stress (beginning machine) (listed (events_made source.now (beginning machine)))) result.record_text }
 {
-    run_events::<S, H, Brand, O, E>(alloc, machine, source, wanted, out, err)
+    match source {
+        RunSource::Schedule(schedule) => {
+            let mut events = Scheduled::new(schedule);
+            run_events::<Scheduled<'_>, H, Brand, O, E>(
+                alloc,
+                machine,
+                &mut events,
+                wanted,
+                out,
+                err,
+            )
+        }
+        RunSource::RoundRobin(robin) => {
+            let mut events = Turns::new(alloc, *robin);
+            run_events::<Turns, H, Brand, O, E>(alloc, machine, &mut events, wanted, out, err)
+        }
+    }
 }
 
 // Tells of class-file bytes that were made for a file of this name.
@@ -385,12 +339,8 @@ fn refusal_line(alloc: Global, refusal: Refusal<'_>) -> Result<String, AllocErro
     format!(in alloc; "{refusal}\n")
 }
 
-/// Tells why a job is not done, or where memory is refused to that line that it was.
-pub(crate) fn tell_refusal<E: Watchable>(
-    alloc: Global,
-    refusal: Refusal<'_>,
-    err: &mut Watched<E>,
-) -> Status
+// Tells why a job is not done, or where memory is refused to that line that it was.
+fn tell_refusal<E: Watchable>(alloc: Global, refusal: Refusal<'_>, err: &mut Watched<E>) -> Status
     requires { err.old.failed ≡ false }
     ensures { Tells (words E.contents E.ends) (turned_away (reason_of refusal.entry)) result err.old err.new
         ⊎ Tells (words E.contents E.ends) exhausted result err.old err.new }
@@ -405,15 +355,18 @@ pub(crate) fn tell_refusal<E: Watchable>(
     }
 }
 
-// Tells why a job is not done. Nothing is written to the output.
-fn tell_obstacle<E: Watchable>(
+/// Tells why a job is not done. Nothing is written to the output.
+pub(crate) fn tell_obstacle<E: Watchable>(
     alloc: Global,
     obstacle: Obstacle<'_>,
     err: &mut Watched<E>,
 ) -> Status
     requires { err.old.failed ≡ false }
-    ensures { (v : Verdict) → Hinders v obstacle.entry → (e : Ending) × Allows v e × (IsTalk e → ⊥) × (output_of e ≡ [])
+    ensures job { (v : Verdict) → Hinders v obstacle.entry → (e : Ending) × Allows v e × (IsTalk e → ⊥) × (output_of e ≡ [])
         × Tells (words E.contents E.ends) e result err.old err.new × (made_whole e ≡ None) }
+    // The same of a run of which something is told.
+    ensures told { (tells : Telling) (v : Result ToldRun Cause) → Hinders v obstacle.entry
+        → (e : TellingEnding) × TellingAllows tells v e × (telling_output tells e ≡ []) × SaysEnding (words E.contents E.ends) tells e result err.old err.new }
 {
     match obstacle {
         Obstacle::Refused(refusal) => tell_refusal(alloc, refusal, err),
@@ -463,7 +416,11 @@ fn execute_run<C: Collector + Drop + Send, W: Threads + Wait + Sync, O: Watchabl
 {
     match prepare(alloc, job, collector) {
         Ok((machine, plan)) => {
-            let wanted = wanted_of(job);
+            let wanted = Wanted {
+                show_heap: job.show_heap,
+                is_recorded: job.is_recorded,
+                stress: job.stress,
+            };
             run_as_chosen(rt, alloc, machine, &plan, wanted, out, err)
         }
         Err(obstacle) => Finished::without_record(tell_obstacle(alloc, obstacle, err)),
@@ -538,24 +495,6 @@ fn execute_explore<W: Threads, O: Watchable, E: Watchable>(
     }
 }
 
-// Answers the lines of a reader in the session that begins with a machine.
-fn answer_session<H: Heap + Drop, W: Wait, R: Readable, O: Watchable>(
-    rt: &W,
-    alloc: Global,
-    machine: Machine<H>,
-    reader: &mut Watched<R>,
-    out: &mut Watched<O>,
-) -> Status
-    requires { out.old.failed ≡ false }
-    ensures { (w : World) → MatchesWorld machine w
-        → IsHeld (reads R.remaining R.fails) (words O.contents O.ends) (session_of w) result reader.old reader.new out.old out.new }
-{
-    let mut debugger = Debugger::new(alloc, machine);
-    let status = answer_lines(rt, alloc, &mut debugger, reader, out);
-    drop(debugger);
-    status
-}
-
 // Tells that a write to the output failed, where one has.
 fn tell_failure<O: Watchable, E: Watchable>(out: &Watched<O>, err: &mut Watched<E>)
     requires { err.old.failed ≡ false }
@@ -583,7 +522,9 @@ fn execute_debug<C: Collector + Drop, W: Wait, R: Readable, O: Watchable, E: Wat
 {
     match prepare_session(alloc, job, collector) {
         Ok(machine) => {
-            let status = answer_session(rt, alloc, machine, reader, out);
+            let mut debugger = Debugger::new(alloc, machine);
+            let status = answer_lines(rt, alloc, &mut debugger, reader, out);
+            drop(debugger);
             tell_failure(out, err);
             status
         }

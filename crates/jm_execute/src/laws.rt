@@ -98,8 +98,8 @@ pub fn room_for_the_output<E: Watchable>()
 
 /// Standard error in memory that has room for its lines does not fail, where the output was written.
 pub fn room_for_the_lines<O: Watchable>()
-    ensures { (contents : Vec ℕ Global → Option (List ℕ)) (e : Ending) (lines : List ℕ) (ended : Status) (out new_out : Watch O) (err new_err : Watch (Vec ℕ Global))
-        → lines_after e ≡ Some lines → new_out.failed ≡ false → vec_len err.inner + length lines ≤ vec_capacity err.inner
+    ensures { (contents : Vec ℕ Global → Option (List ℕ)) (e : Ending) (ended : Status) (out new_out : Watch O) (err new_err : Watch (Vec ℕ Global))
+        → new_out.failed ≡ false → vec_len err.inner + length (lines_after e) ≤ vec_capacity err.inner
         → Leaves (words O.contents O.ends) (words contents vec_ends) e ended out new_out err new_err
         → new_err.failed ≡ false }
 {}

@@ -1,29 +1,33 @@
-//! What `jm run`, `jm replay`, `jm explore`, `jm asm`, `jm dis` and `jm debug` do with the files that they were given, and what
-//! `jm explain` and `jm version` write.
+//! What the commands of `jm` do with the files that they were given.
 //!
-//! [`execute`] does a [`Job`] and answers the [`Status`] of the program. It runs the classes of a
-//! program's files by the events of a schedule, or by turns of its threads where there is none, or by those that several workers choose, and
-//! writes what the Java program prints and how the run ended; or it tries the schedules of the program and writes
-//! what they come to (`jm_explore`); or it writes the class file of the
-//! class that an assembler text denotes; or it writes the text of the class that a file holds; or it
-//! answers the lines of a reader as the debugger does. It knows no file and no terminal: the files' bytes stand in the job, the reader is any that is
-//! [`Readable`] and the two writers any that are [`Watchable`], each [`Watched`], so that its contract
-//! can say which bytes are read and written, and that one of them failed only where one of its calls
-//! did. The output and the lines of a run are those of the model's run (`jm_world`) over the events
-//! that the schedule spells, or that the model's round robin chooses; the bytes of a class file spell
-//! the class of its text (`jm_class_format`, `jm_jasmin`); the text of a class is that of the
-//! definition (`jm_disassembler`), and denotes the class where a text can; the answers are those of the debugger's
-//! definition (`jm_debug`) to the lines that the reader's bytes spell, one after the other. [`explain`]
-//! writes what the table of `jm_explain` says of a number, and [`tell_version`] a line.
+//! [`execute`] does a [`Job`] and answers the [`Status`] of the program. For `jm run` it runs the classes of a program's
+//! files by the events of a schedule, or by turns of its threads, or by those that several workers choose, and writes what
+//! the Java program prints and how the run ended; for `jm replay` by the events of a record. For `jm explore` it tries the
+//! schedules of the program and writes what they come to. For `jm asm` it writes the class file of the class that an
+//! assembler text denotes, for `jm dis` the text of the class that a file holds. For `jm debug` it answers the lines of a
+//! reader as the debugger does. Beside it [`film`], [`trace`] and [`why`] make a run and write what is told of it while its
+//! events are made ([`tell_run`]); [`check`] writes all that is refused and missing in the classes of files; [`explain`]
+//! writes what the table of `jm_explain` says of a number, and [`tell_version`] a line, for `jm version`.
 //!
-//! `program_file` says which class a file holds, `preparation` goes from files to a machine,
-//! `events` and `round_robin` make the events, the latter over the threads that a `pass` keeps,
-//! `exploring` searches schedules, `report` and `ends` say how a run ended, `assembly` goes from a text to a class file, `disassembly`
-//! from a class to a text, `lines` from a reader to its lines, and `session` from these to their answers, `explanation` says what
-//! numbers mean. The writer and the
-//! reader of class files do not know one another, so [`written_and_read`] stands here: a class that is
-//! written as a class file and read again is that class. The crate stands on `jm_class_reader`, `jm_jasmin`, `jm_class_writer`, `jm_disassembler`, `jm_linker`, `jm_machine`,
-//! `jm_gen_heap`, `jm_schedule`, `jm_explore`, `jm_debug` and `jm_explain`.
+//! It knows no file and no terminal: the files' bytes stand in the job, the reader is any that is [`Readable`] and the two
+//! writers any that are [`Watchable`], each [`Watched`], so that its contract can say which bytes are read and written, and
+//! that one of them failed only where one of its calls did. The output and the lines of a run are those of the model's run
+//! (`jm_world`) over the events that the schedule spells, or that the model's round robin chooses; the bytes of a class file
+//! spell the class of its text (`jm_class_format`, `jm_jasmin`); the text of a class is that of the definition
+//! (`jm_disassembler`), and denotes the class where a text can; the answers are those of the debugger's definition
+//! (`jm_debug`) to the lines that the reader's bytes spell, one after the other.
+//!
+//! `program_file` says which class a file holds, `preparation` goes from files to a machine, `events` says where its events
+//! come from (`jm_events`), `one_worker` makes them, and `workers` those that several choose; `report` and `ends` say how a
+//! run ended. `replaying`, `exploring`, `assembly`, `disassembly` and `session` have the other jobs, the last
+//! over the `lines` of its reader; `told_run` has what a `teller` tells, `checking` and `explanation` what their names say.
+//! The writer and the reader of class files do not know one another, so [`written_and_read`] stands here: a class that is
+//! written as a class file and read again is that class.
+//!
+//! It is the crate in which the others meet: it stands on the machine (`jm_machine`, `jm_shared`, `jm_gen_heap` with its
+//! collectors `jm_copy` and `jm_par_copy`), what goes before it (`jm_class_reader`, `jm_jasmin`, `jm_linker`, `jm_schedule`) and
+//! what is made of it (`jm_events`, `jm_choice`, `jm_explore`, `jm_debug`, `jm_film_run`, `jm_trace`, `jm_why`), on `jm_class_writer`,
+//! `jm_disassembler` and `jm_findings`, on the jobs (`jm_job`) and on `jm_explain`.
 #![tactic(auto)]
 
 mod assembly;
@@ -41,7 +45,7 @@ mod film_execution;
 mod finished;
 mod laws;
 mod lines;
-mod pass;
+mod one_worker;
 mod preparation;
 mod program_file;
 mod readable;
@@ -49,10 +53,8 @@ mod reasons_of_end;
 mod refusal;
 mod replaying;
 mod report;
-mod round_robin;
 mod round_trip;
 mod session;
-mod sole_worker;
 mod teller;
 mod text_page;
 mod told_preparation;
@@ -66,8 +68,8 @@ pub use assembly::assemble_file;
 pub use checking::check;
 pub use disassembly::{ClassText, disassemble_file};
 pub use ends::status_of;
-pub use events::{EventSource, RunPlan, RunSource};
-pub use execution::{Made, execute, make_journal};
+pub use events::{RunPlan, RunSource};
+pub use execution::execute;
 pub use explanation::{explain, tell_version};
 pub use exploring::Lack;
 pub use file_name::FileName;
@@ -86,6 +88,7 @@ pub use laws::{
     nothing_is_told_where_files_load, text_of_its_class,
 };
 pub use lines::{LineFault, NextLine, Unread};
+pub use one_worker::{Made, make_journal};
 pub use preparation::{
     Ready, ReadyToReplay, RunHeap, machine_of, prepare, prepare_exploration, prepare_replay,
     prepare_session,
@@ -99,7 +102,6 @@ pub use report::{
 };
 pub use round_trip::written_and_read;
 pub use session::answer_lines;
-pub use sole_worker::SoleWorker;
 pub use teller::{FilmTeller, Teller, TraceTeller, WhyTeller};
 pub use told_preparation::{ReadyToTell, prepare_told};
 pub use told_run::tell_run;

@@ -1,15 +1,14 @@
 // From a job's files to a machine and the events that it is to make.
 
-ghost use Rattle.std.specs.Prelude.{◌≡◌, None, [], IfErr, IfOk};
+ghost use Rattle.std.specs.Prelude.{◌≡◌, IfOk};
 ghost use Rattle.jm_world.specs.Loading.{loaded_world};
 ghost use Rattle.jm_world.specs.World.{World};
-ghost use Rattle.jm_gen_heap.specs.Residents.{content_of};
 ghost use Rattle.jm_machine.specs.Start.{IsEmpty};
 ghost use Rattle.jm_execute.specs.Beginnings.{StandsAtItsBeginning};
 ghost use Rattle.jm_execute.specs.Refusals.{Gives};
 ghost use Rattle.jm_execute.specs.Sources.{choice_made};
 ghost use Rattle.jm_choice.specs.Choices.{recorded};
-ghost use Rattle.jm_execute.specs.Verdicts.{classes_of, debug_verdict, debugs, entries_in, explore_verdict, explores, events_in, choice_of, events_read, linked_program, loaded_program, program_of, replay_verdict, run_verdict, runs, scheduled_events};
+ghost use Rattle.jm_execute.specs.Verdicts.{classes_of, debug_verdict, debugs, entries_in, explore_verdict, explores, choice_of, events_read, linked_program, loaded_program, program_of, replay_verdict, run_verdict, runs, scheduled_events};
 
 use crate::events::{RunPlan, RunSource};
 use crate::files::{bytes_of, check_read};
@@ -65,9 +64,11 @@ fn loaded_machine<'a, H: Heap + Drop>(
     }
 }
 
-fn schedule_of<'a>(alloc: Global, text: &[u8]) -> Result<Schedule, Obstacle<'a>>
-    ensures { Gives result (events_in text.now) (λ events. events) }
+/// The schedule in a file.
+pub(crate) fn schedule_in(alloc: Global, file: &InputFile) -> Result<Schedule, Obstacle<'_>>
+    ensures { Gives result (scheduled_events file.now) (λ events. events) }
 {
+    let text = bytes_of(file)?;
     match read_schedule(alloc, text) {
         Ok(schedule) => Ok(schedule),
         Err(ScheduleFault::OutOfMemory) => Err(Obstacle::OutOfMemory),
@@ -75,14 +76,6 @@ fn schedule_of<'a>(alloc: Global, text: &[u8]) -> Result<Schedule, Obstacle<'a>>
             Err(Obstacle::Refused(Refusal::BadSchedule(line)))
         }
     }
-}
-
-/// The schedule in a file.
-pub(crate) fn schedule_in(alloc: Global, file: &InputFile) -> Result<Schedule, Obstacle<'_>>
-    ensures { Gives result (scheduled_events file.now) (λ events. events) }
-{
-    let text = bytes_of(file)?;
-    schedule_of(alloc, text)
 }
 
 /// The machine that the program of some files begins with, over an empty heap. A file that could not
@@ -117,37 +110,8 @@ fn check_events(events: &RunEvents) -> Result<(), Obstacle<'_>>
     }
 }
 
-// How a job says that its events are chosen.
-fn plan_of(alloc: Global, events: &RunEvents) -> Result<RunPlan, Obstacle<'_>>
-    ensures { (w : World) → Gives result (choice_of events.now w) (λ plan. choice_made plan w) }
-{
-    match events {
-        RunEvents::Schedule(file) => {
-            let schedule = schedule_in(alloc, file)?;
-            Ok(RunPlan::Source(RunSource::Schedule(schedule)))
-        }
-        RunEvents::RoundRobin(robin) => Ok(RunPlan::Source(RunSource::RoundRobin(*robin))),
-        RunEvents::Workers(workers) => Ok(RunPlan::Workers(*workers)),
-    }
-}
-
 /// The heap of a run: of two generations, with a collector.
 pub type RunHeap<C> = GenHeap<C>;
-
-// An empty heap of so many cells.
-fn empty_heap<'a, C: Collector + Drop>(
-    alloc: Global,
-    limit: u32,
-    collector: C,
-) -> Result<RunHeap<C>, Obstacle<'a>>
-    ensures empty { IfOk result (λ heap. content_of heap ≡ record { limit = limit; next = 0; residents = [] }) }
-    ensures memory { IfErr result (λ obstacle. obstacle ≡ Obstacle.OutOfMemory) }
-{
-    match GenHeap::new(alloc, limit, collector) {
-        Ok(heap) => Ok(heap),
-        Err(_) => Err(Obstacle::OutOfMemory),
-    }
-}
 
 /// A machine before its first event, and how its events are chosen.
 pub type Ready<C> = (Machine<RunHeap<C>>, RunPlan);
@@ -162,9 +126,9 @@ pub(crate) fn machine_within<C: Collector + Drop>(
     ensures program { Gives result (program_of limit files.now) (λ machine. machine.linked.program) }
     ensures ready { IfOk result (StandsAtItsBeginning limit) }
 {
-    match empty_heap(alloc, limit, collector) {
+    match GenHeap::new(alloc, limit, collector) {
         Ok(heap) => machine_of(alloc, files, heap),
-        Err(obstacle) => Err(obstacle),
+        Err(_) => Err(Obstacle::OutOfMemory),
     }
 }
 
@@ -177,12 +141,18 @@ fn with_plan<'a, H: Heap + Drop>(
     ensures plan { (w : World) → Gives result (choice_of events.now w) (λ ready. choice_made ready.1 w) }
     ensures same { IfOk result (λ ready. ready.0 ≡ machine) }
 {
-    match plan_of(alloc, events) {
-        Ok(plan) => Ok((machine, plan)),
-        Err(obstacle) => {
-            drop(machine);
-            Err(obstacle)
+    match events {
+        RunEvents::Schedule(file) => match schedule_in(alloc, file) {
+            Ok(schedule) => Ok((machine, RunPlan::Source(RunSource::Schedule(schedule)))),
+            Err(obstacle) => {
+                drop(machine);
+                Err(obstacle)
+            }
+        },
+        RunEvents::RoundRobin(robin) => {
+            Ok((machine, RunPlan::Source(RunSource::RoundRobin(*robin))))
         }
+        RunEvents::Workers(workers) => Ok((machine, RunPlan::Workers(*workers))),
     }
 }
 
@@ -206,18 +176,6 @@ pub fn prepare<C: Collector + Drop>(
     }
 }
 
-fn record_of<'a>(alloc: Global, text: &[u8]) -> Result<Record, Obstacle<'a>>
-    ensures { Gives result (entries_in text.now) (λ read. read) }
-{
-    match read_record(alloc, text) {
-        Ok(read) => Ok(read),
-        Err(ScheduleFault::OutOfMemory) => Err(Obstacle::OutOfMemory),
-        Err(ScheduleFault::BadSchedule(line)) => {
-            Err(Obstacle::Refused(Refusal::BadSchedule(line)))
-        }
-    }
-}
-
 /// A machine before its first event, and the record whose events it is to make.
 pub type ReadyToReplay<C> = (Machine<RunHeap<C>>, Record);
 
@@ -230,11 +188,15 @@ fn with_record<'a, H: Heap + Drop>(
     ensures record_is { Gives result (entries_in text.now) (λ ready. ready.1) }
     ensures same { IfOk result (λ ready. ready.0 ≡ machine) }
 {
-    match record_of(alloc, text) {
+    match read_record(alloc, text) {
         Ok(read) => Ok((machine, read)),
-        Err(obstacle) => {
+        Err(ScheduleFault::OutOfMemory) => {
             drop(machine);
-            Err(obstacle)
+            Err(Obstacle::OutOfMemory)
+        }
+        Err(ScheduleFault::BadSchedule(line)) => {
+            drop(machine);
+            Err(Obstacle::Refused(Refusal::BadSchedule(line)))
         }
     }
 }

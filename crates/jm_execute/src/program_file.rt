@@ -8,7 +8,7 @@ ghost use Rattle.jm_class_format.specs.ClassFile.{Spells};
 ghost use Rattle.jm_jasmin_ops.specs.declared.fault.AsmFault.TheVariants as asm;
 ghost use Rattle.jm_execute.specs.ProgramFiles.{is_text_name, line_at, text_class};
 ghost use Rattle.jm_execute.specs.Refusals.{Gives};
-ghost use Rattle.jm_execute.specs.Verdicts.{class_of, denoted_class, held_class, held_in_text, spelled_class, writable_class, written_class};
+ghost use Rattle.jm_execute.specs.Verdicts.{class_of, denoted_class, held_class, held_in_text, writable_class, written_class};
 
 use crate::files::bytes_of;
 use crate::refusal::{Obstacle, Refusal};
@@ -51,10 +51,8 @@ fn text_of(bytes: &[u8]) -> Result<&str, AsmFault>
 fn assembled(alloc: Global, bytes: &[u8]) -> Result<Class, AsmFault>
     ensures { GivesAll (λ class. class) asm.OutOfMemory result (text_class bytes.now) }
 {
-    match text_of(bytes) {
-        Ok(text) => assemble(alloc, text),
-        Err(fault) => Err(fault),
-    }
+    let text = text_of(bytes)?;
+    assemble(alloc, text)
 }
 
 /// The class that the bytes of an assembler text of this name denote.
@@ -105,30 +103,18 @@ fn held_in_text<'a>(alloc: Global, file: &'a str, bytes: &[u8]) -> Result<Class,
     }
 }
 
-// The class that the bytes of a class file of this name spell.
-fn class_in_class_file<'a>(
-    alloc: Global,
-    file: &'a str,
-    bytes: &[u8],
-) -> Result<Class, Obstacle<'a>>
-    ensures { Gives result (spelled_class file.now bytes.now) (λ class. class) }
-{
-    match read_class(alloc, bytes) {
-        Ok(class) => Ok(class),
-        Err(ReadFault::OutOfMemory) => Err(Obstacle::OutOfMemory),
-        Err(fault) => Err(Obstacle::Refused(Refusal::BadClass(file, fault))),
-    }
-}
-
 /// The class that a file of this name with these bytes holds. A text whose class passes a limit of
 /// class files holds none.
 pub fn class_in_file<'a>(alloc: Global, file: &'a str, bytes: &[u8]) -> Result<Class, Obstacle<'a>>
     ensures { Gives result (held_class file.now bytes.now) (λ class. class) }
 {
     if is_text_name(file) {
-        held_in_text(alloc, file, bytes)
-    } else {
-        class_in_class_file(alloc, file, bytes)
+        return held_in_text(alloc, file, bytes);
+    }
+    match read_class(alloc, bytes) {
+        Ok(class) => Ok(class),
+        Err(ReadFault::OutOfMemory) => Err(Obstacle::OutOfMemory),
+        Err(fault) => Err(Obstacle::Refused(Refusal::BadClass(file, fault))),
     }
 }
 

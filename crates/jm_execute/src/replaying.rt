@@ -8,7 +8,7 @@ ghost use Rattle.jm_execute.specs.Beginnings.{beginning};
 ghost use Rattle.jm_execute.specs.Endings.{Ending, Ends, Leaves, differed};
 ghost use Rattle.jm_execute.specs.Written.{words};
 
-use crate::execution::{tell_interrupted, tell_run};
+use crate::execution::{tell_end, tell_interrupted};
 use crate::report::{tell_write_failed, write_difference};
 use crate::watchable::Watchable;
 use crate::watched::Watched;
@@ -60,7 +60,7 @@ fn tell_replayed<H: Heap, O: Watchable, E: Watchable>(
 {
     match outcome {
         Ok(difference) => match difference {
-            None => tell_run(alloc, machine, show_heap, out, err),
+            None => tell_end(alloc, machine, show_heap, out, err),
             Some(line) => tell_differed(machine, line, out, err),
         },
         Err(_) => tell_interrupted(machine, out, err),

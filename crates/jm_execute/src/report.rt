@@ -6,7 +6,7 @@ ghost use Rattle.jm_machine.specs.Threads.{class_ended_by};
 ghost use Rattle.jm_machine.specs.View.{MatchesWorld};
 ghost use Rattle.jm_execute.specs.Endings.{LinesTold};
 ghost use Rattle.jm_execute.specs.Written.{Writes, words};
-ghost use Rattle.jm_execute.specs.Reports.{differs_line, ended_line, failure_line, heap_shown, last_line, live_line, memory_line, report, stop_text, thread_line, thread_lines, unwritten_line};
+ghost use Rattle.jm_execute.specs.Reports.{differs_line, failure_line, heap_shown, last_line, live_line, memory_line, report, thread_line, thread_lines, unwritten_line};
 
 use crate::file_name::FileName;
 use crate::watchable::{Watchable, WriteFailed};
@@ -15,22 +15,11 @@ use arrayvec::ArrayString;
 use itoa::Buffer;
 use jm_debug::heap;
 use jm_heap::Heap;
-use jm_machine::Machine;
-use jm_program::Name;
-use jm_world::Stop;
+use jm_machine::{Machine, StopText, ended_line};
 use std::alloc::{AllocError, Global};
-use std::fmt;
-use std::fmt::{Display, Write};
+use std::fmt::Write;
 
 // ---- how a run ended
-
-// The line of a thread that an exception of this class has ended.
-fn ended_line(alloc: Global, number: u64, class: &[u16]) -> Result<String, AllocError>
-    ensures { IfOk result (λ line. string_bytes line ≡ ended_line number class.now) }
-{
-    let class = Name::shared(alloc, class)?;
-    format!(in alloc; "jm: thread {number} ended by {class}\n")
-}
 
 // The line of the thread of a number, if an exception has ended it.
 fn thread_line<H: Heap>(
@@ -59,29 +48,6 @@ fn thread_lines<H: Heap>(alloc: Global, machine: &Machine<H>) -> Result<String, 
     Ok(lines)
 }
 
-// A stop as a line names it.
-#[derive(Clone, Copy)]
-struct StopText(Stop);
-
-impl Display for StopText {
-    ghost output = { λ text. Some (stop_text text.0) };
-
-    fn fmt<W: fmt::Write>(&self, f: &mut fmt::Formatter<W>) -> fmt::Result {
-        match self.0 {
-            Stop::TagFault(fault) => write!(f, "60 TagFault({fault})"),
-            Stop::HeapFull => f.write_str("62 HeapFull"),
-            Stop::SerialsEnd => f.write_str("64 SerialsEnd"),
-        }
-    }
-}
-
-fn stop_line(alloc: Global, stop: Stop) -> Result<String, AllocError>
-    ensures { IfOk result (λ line. string_bytes line ≡ last_line (Some stop) 0) }
-{
-    let stop = StopText(stop);
-    format!(in alloc; "jm: {stop}\n")
-}
-
 #[tactic(auto, using(crate::proofs::Threads::some_live))]
 fn live_line(alloc: Global, live: u64) -> Result<String, AllocError>
     ensures { IfOk result (λ line. string_bytes line ≡ live_line live) }
@@ -98,7 +64,10 @@ fn last_line<H: Heap>(alloc: Global, machine: &Machine<H>) -> Result<String, All
         → IfOk result (λ line. string_bytes line ≡ last_line w.stop (live_among w.threads)) }
 {
     match machine.stop() {
-        Some(stop) => stop_line(alloc, stop),
+        Some(stop) => {
+            let stop = StopText(stop);
+            format!(in alloc; "jm: {stop}\n")
+        }
         None => live_line(alloc, machine.live() as u64),
     }
 }

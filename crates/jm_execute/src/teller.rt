@@ -31,9 +31,9 @@ pub trait Teller {
         events: &mut S,
         page: &mut P,
     ) -> Result<(), PageFault>
-        ensures written { (w : World) → MatchesWorld machine.old w
+        ensures written { (w : World) → MatchesWorld machine.old w → S.knows events.old w
             → Puts P.wrote P.broke result page.old ((telling self.now).text w (S.due events.old w)) page.new }
-        ensures made { (w : World) → MatchesWorld machine.old w
+        ensures made { (w : World) → MatchesWorld machine.old w → S.knows events.old w
             → OnOk result (MatchesWorld machine.new (run_from w ((telling self.now).made (S.due events.old w)))) };
 }
 

@@ -31,19 +31,6 @@ fn check_due(events: &ToldEvents) -> Result<(), Obstacle<'_>>
     }
 }
 
-// Where a job says that its events come from.
-fn source_of(alloc: Global, events: &ToldEvents) -> Result<RunSource, Obstacle<'_>>
-    ensures { (w : World) → Gives result (due_of events.now w) (λ source. events_made source w) }
-{
-    match events {
-        ToldEvents::Schedule(file) => {
-            let schedule = schedule_in(alloc, file)?;
-            Ok(RunSource::Schedule(schedule))
-        }
-        ToldEvents::RoundRobin(robin) => Ok(RunSource::RoundRobin(*robin)),
-    }
-}
-
 /// A machine before its first event, and where its events come from.
 pub type ReadyToTell<C> = (Machine<RunHeap<C>>, RunSource);
 
@@ -56,12 +43,15 @@ fn with_source<'a, H: Heap + Drop>(
     ensures source { (w : World) → Gives result (due_of events.now w) (λ ready. events_made ready.1 w) }
     ensures same { IfOk result (λ ready. ready.0 ≡ machine) }
 {
-    match source_of(alloc, events) {
-        Ok(source) => Ok((machine, source)),
-        Err(obstacle) => {
-            drop(machine);
-            Err(obstacle)
-        }
+    match events {
+        ToldEvents::Schedule(file) => match schedule_in(alloc, file) {
+            Ok(schedule) => Ok((machine, RunSource::Schedule(schedule))),
+            Err(obstacle) => {
+                drop(machine);
+                Err(obstacle)
+            }
+        },
+        ToldEvents::RoundRobin(robin) => Ok((machine, RunSource::RoundRobin(*robin))),
     }
 }
 

@@ -1,22 +1,18 @@
 // What is told of a run: the text, its lines, its status.
 
-ghost use Rattle.std.specs.Prelude.{◌≡◌, ℕ, [], List, Ok, OnOk, Result, Some, false};
+ghost use Rattle.std.specs.Prelude.{◌≡◌, ℕ, List, Ok, OnOk, false};
 ghost use Rattle.jm_machine.specs.View.{MatchesWorld};
 ghost use Rattle.jm_world.specs.Loading.{loaded_world};
 ghost use Rattle.jm_world.specs.World.{World};
-ghost use Rattle.jm_execute.specs.Refusals.{Hinders};
-ghost use Rattle.jm_execute.specs.Reports.{failure_line};
 ghost use Rattle.jm_execute.specs.Sources.{events_made};
-ghost use Rattle.jm_execute.specs.Tellings.{EndTold, IsTold, Says, SaysEnding, Telling, TellingAllows, TellingEnding, TextTold, ToldRun, telling_output, told_run, told_verdict};
-ghost use Rattle.jm_execute.specs.Verdicts.{Cause};
+ghost use Rattle.jm_execute.specs.Tellings.{EndTold, IsTold, TextTold, told_run, told_verdict};
 ghost use Rattle.jm_execute.specs.Written.{words};
 ghost use Rattle.jm_program.specs.declared.class.ClassParts.{ClassParts};
 
 use crate::copiers::job_collector;
 use crate::ends::status_of;
 use crate::events::RunSource;
-use crate::execution::{tell_exhausted, tell_refusal};
-use crate::refusal::Obstacle;
+use crate::execution::{tell_exhausted, tell_obstacle};
 use crate::report::{report_of, tell_lines, tell_write_failed};
 use crate::teller::Teller;
 use crate::told_preparation::prepare_told;
@@ -30,27 +26,6 @@ use jm_machine::Machine;
 use jm_page::PageFault;
 use std::alloc::Global;
 use std::thread::Threads;
-
-// Tells what keeps a run from being made. Nothing is written to the output.
-fn tell_untold<E: Watchable>(alloc: Global, obstacle: Obstacle<'_>, err: &mut Watched<E>) -> Status
-    requires { err.old.failed ≡ false }
-    ensures { (tells : Telling) (v : Result ToldRun Cause) → Hinders v obstacle.entry
-        → (e : TellingEnding) × TellingAllows tells v e × (telling_output tells e ≡ []) × SaysEnding (words E.contents E.ends) tells e result err.old err.new }
-{
-    match obstacle {
-        Obstacle::Refused(refusal) => tell_refusal(alloc, refusal, err),
-        Obstacle::OutOfMemory => tell_exhausted(err),
-    }
-}
-
-// Tells that a write of the text failed.
-fn tell_broken<E: Watchable>(err: &mut Watched<E>) -> Status
-    requires { err.old.failed ≡ false }
-    ensures { Says (words E.contents E.ends) Status.Files (Some failure_line) result err.old err.new }
-{
-    tell_write_failed(err);
-    Status::Files
-}
 
 // Tells of a run whose events were all made.
 fn tell_last<H: Heap, E: Watchable>(
@@ -83,7 +58,10 @@ fn tell_told<H: Heap, E: Watchable>(
     match written {
         Ok(()) => tell_last(alloc, machine, err),
         Err(PageFault::OutOfMemory) => tell_exhausted(err),
-        Err(PageFault::WriteFailed) => tell_broken(err),
+        Err(PageFault::WriteFailed) => {
+            tell_write_failed(err);
+            Status::Files
+        }
     }
 }
 
@@ -98,7 +76,7 @@ fn tell_events<T: Teller, H: Heap, S: EventsDue, O: Watchable, E: Watchable>(
 ) -> Status
     requires out { out.old.failed ≡ false }
     requires err { err.old.failed ≡ false }
-    ensures { (program : List ClassParts) (limit : ℕ) → let w : World = loaded_world program limit in MatchesWorld machine.old w
+    ensures { (program : List ClassParts) (limit : ℕ) → let w : World = loaded_world program limit in MatchesWorld machine.old w → S.knows events.old w
         → IsTold (words O.contents O.ends) (words E.contents E.ends) (T.telling teller.now) (Ok (told_run program limit (S.due events.old w))) result out.old out.new err.old err.new }
 {
     let written = teller.tell(alloc, machine, events, out);
@@ -125,7 +103,7 @@ fn tell_source<T: Teller, H: Heap, O: Watchable, E: Watchable>(
             tell_events(alloc, machine, &mut events, teller, out, err)
         }
         RunSource::RoundRobin(robin) => {
-            let mut events = Turns::new(*robin);
+            let mut events = Turns::new(alloc, *robin);
             tell_events(alloc, machine, &mut events, teller, out, err)
         }
     }
@@ -163,6 +141,6 @@ pub fn tell_run<T: Teller, W: Threads, O: Watchable, E: Watchable>(
             drop(machine);
             status
         }
-        Err(obstacle) => tell_untold(alloc, obstacle, err),
+        Err(obstacle) => tell_obstacle(alloc, obstacle, err),
     }
 }

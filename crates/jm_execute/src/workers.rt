@@ -4,7 +4,6 @@ ghost use Rattle.std.specs.Prelude.{◌≡◌, ◌<◌, false};
 ghost use Rattle.jm_choice.specs.Choices.{Choice, MadeBy, by_workers};
 ghost use Rattle.jm_machine.specs.View.{MatchesWorld};
 ghost use Rattle.jm_shared.specs.Legal.{events_of};
-ghost use Rattle.jm_shared.specs.Seats.{fresh_hands};
 ghost use Rattle.jm_execute.specs.Beginnings.{beginning};
 ghost use Rattle.jm_execute.specs.Endings.{Ending, Ends, Leaves};
 ghost use Rattle.jm_execute.specs.KeptRecords.{IsJournal, IsKeptIf, IsRecord, made_whole};
@@ -18,7 +17,7 @@ use jm_choice::make_by_workers;
 use jm_heap::Heap;
 use jm_job::Workers;
 use jm_machine::Machine;
-use jm_shared::{Driven, OpenTurnGate, Seat, SeatTable, SharedMachine, Sharing};
+use jm_shared::{Driven, OpenTurnGate, SeatTable, SharedMachine, Sharing};
 use std::alloc::Global;
 use std::marker::Brand;
 use std::sync::Wait;
@@ -48,37 +47,6 @@ fn tell_driven<H: Heap, N: Sharing, O: Watchable, E: Watchable>(
     }
 }
 
-// The workers of a shared machine, one for each of its seats, make their events, and the run is told of.
-fn run_driven<
-    H: Heap + Drop + Send,
-    N: Sharing + Send + Sync,
-    W: Threads + Wait + Sync,
-    O: Watchable,
-    E: Watchable,
->(
-    rt: &W,
-    alloc: Global,
-    machine: SharedMachine<H, N>,
-    seats: Vec<Seat<N>>,
-    steps: u32,
-    wanted: Wanted,
-    out: &mut Watched<O>,
-    err: &mut Watched<E>,
-) -> Finished
-    requires steps { 0 < steps }
-    requires seats { seats.items ≡ fresh_hands 0 N.seats }
-    requires out { out.old.failed ≡ false }
-    requires err { err.old.failed ≡ false }
-    ensures { (e : Ending) × Ends wanted.show_heap N.first (by_workers N.seats steps) e
-        × Leaves (words O.contents O.ends) (words E.contents E.ends) e result.status out.old out.new err.old err.new
-        × IsKeptIf (made_whole e) wanted.is_recorded (IsRecord wanted.stress N.first (by_workers N.seats steps)) result.record_text }
-{
-    let driven = make_by_workers(rt, alloc, machine, seats, steps, &OpenTurnGate);
-    let finished = tell_driven(alloc, &driven, wanted, out, err);
-    drop(driven);
-    finished
-}
-
 // Workers make their events from the first world on, one for each seat of a table, and the run is told of.
 fn run_seats<
     H: Heap + Drop + Send,
@@ -106,7 +74,12 @@ fn run_seats<
         × IsKeptIf (made_whole e) wanted.is_recorded (IsRecord wanted.stress N.first (by_workers N.seats steps)) result.record_text }
 {
     match SharedMachine::<H, N>::new(alloc, machine, table) {
-        Ok((machine, seats)) => { run_driven(rt, alloc, machine, seats, steps, wanted, out, err) }
+        Ok((machine, seats)) => {
+            let driven = make_by_workers(rt, alloc, machine, seats, steps, &OpenTurnGate);
+            let finished = tell_driven(alloc, &driven, wanted, out, err);
+            drop(driven);
+            finished
+        }
         Err(_) => Finished::without_record(tell_exhausted(err)),
     }
 }

@@ -7,4 +7,4 @@ pub returns-in-Ok : goal.returns-in-Ok
 returns-in-Ok g c = (assembled c.in-Ok.bytes.items, c.in-Ok.ensures, λ talk. talk, rw c.deref.ensures.value at c.tell_assembled.ensures)
 
 pub returns-in-Err : goal.returns-in-Err
-returns-in-Err g c = let (ending, allows, silent, none, told, whole) = c.tell_obstacle.ensures _ c.in-Err.ensures in (ending, allows, silent, untouched_told _ _ ending _ _ _ _ c.requires.out none told)
+returns-in-Err g c = let (ending, allows, silent, none, told, whole) = c.tell_obstacle.ensures.job _ c.in-Err.ensures in (ending, allows, silent, untouched_told _ _ ending _ _ _ _ c.requires.out none told)

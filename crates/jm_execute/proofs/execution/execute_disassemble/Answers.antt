@@ -19,5 +19,5 @@ returns-in-Ok g c =
 pub returns-in-Err : goal.returns-in-Err
 unfolding disassembly_verdict
 returns-in-Err g c =
-    let (ending, allows, silent, none, told, whole) = c.tell_obstacle.ensures _ (hindered _ _ _ c.in-Err.ensures) in
+    let (ending, allows, silent, none, told, whole) = c.tell_obstacle.ensures.job _ (hindered _ _ _ c.in-Err.ensures) in
     (ending, allows, silent, untouched_told _ _ ending _ _ _ _ c.requires.out none told)

@@ -19,4 +19,4 @@ returns-in-Ok g c =
     (ending, allowed _ _ _ _ _ c.in-Ok.ensures.run ending from, no_talk _ _ choice ending from, leaves)
 
 pub returns-in-Err : goal.returns-in-Err
-returns-in-Err g c = let (ending, allows, silent, none, told, whole) = c.tell_obstacle.ensures _ c.in-Err.ensures.run in (ending, allows, silent, untouched_told _ _ ending _ _ _ _ c.requires.out none told)
+returns-in-Err g c = let (ending, allows, silent, none, told, whole) = c.tell_obstacle.ensures.job _ c.in-Err.ensures.run in (ending, allows, silent, untouched_told _ _ ending _ _ _ _ c.requires.out none told)

@@ -12,8 +12,7 @@ use Rattle.jm_execute.proofs.execution.execute_run.Goals as goal
 
 pub returns-in-Ok : goal.returns-in-Ok
 returns-in-Ok g c =
-    let asked = c.wanted_of-wanted.ensures in
-    let (ending, ends, leaves, kept) = rw (asked.shows, asked.recorded, asked.stress) at c.run_as_chosen.ensures in
+    let (ending, ends, leaves, kept) = c.run_as_chosen.ensures in
     let m = c.in-Ok.machine in
     let first = loaded_world m.linked.program c.args.job.now.heap in
     let from = subst (λ n. Ends c.args.job.now.show_heap (loaded_world m.linked.program n) (choice_made c.in-Ok.plan (loaded_world m.linked.program n)) ending) c.in-Ok.ensures.ready.limit_is ends in (
@@ -26,4 +25,4 @@ returns-in-Ok g c =
     )
 
 pub returns-in-Err : goal.returns-in-Err
-returns-in-Err g c = let (ending, allows, silent, none, told, whole) = c.tell_obstacle.ensures _ c.in-Err.ensures.run in (ending, allows, silent, rw c.without_record.ensures.status (untouched_told _ _ ending _ _ _ _ c.requires.out none told), subst (λ o. IsKeptIf o c.args.job.now.is_recorded (IsRecordOf (run_verdict c.args.job.now) c.args.job.now.stress) c.without_record.result.record_text) (sym whole) c.without_record.ensures.none)
+returns-in-Err g c = let (ending, allows, silent, none, told, whole) = c.tell_obstacle.ensures.job _ c.in-Err.ensures.run in (ending, allows, silent, rw c.without_record.ensures.status (untouched_told _ _ ending _ _ _ _ c.requires.out none told), subst (λ o. IsKeptIf o c.args.job.now.is_recorded (IsRecordOf (run_verdict c.args.job.now) c.args.job.now.stress) c.without_record.result.record_text) (sym whole) c.without_record.ensures.none)

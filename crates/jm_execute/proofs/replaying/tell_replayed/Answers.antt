@@ -6,7 +6,7 @@ use Rattle.jm_execute.proofs.replaying.tell_replayed.Goals as goal
 pub returns-in-None : goal.returns-in-None
 returns-in-None g c = λ first w choice ended matches.
     let all = rw c.in-None.is at (rw c.in-Ok.is at ended) in
-    let (ending, ends, leaves) = c.tell_run.ensures w matches in
+    let (ending, ends, leaves) = c.tell_end.ensures w matches in
     (ending, ends_in _ first choice w all ending ends, leaves)
 
 pub returns-in-Some : goal.returns-in-Some

@@ -16,5 +16,5 @@ returns-in-Ok g c =
 
 pub returns-in-Err : goal.returns-in-Err
 returns-in-Err g c =
-    let (ending, allows, none, told) = c.tell_untold.ensures (g.T.Teller.telling c.args.teller.now) _ c.in-Err.ensures.run in
+    let (ending, allows, none, told) = c.tell_obstacle.ensures.told (g.T.Teller.telling c.args.teller.now) _ c.in-Err.ensures.run in
     (ending, allows, untouched_told _ _ (g.T.Teller.telling c.args.teller.now) ending _ _ _ _ c.requires.out none told)

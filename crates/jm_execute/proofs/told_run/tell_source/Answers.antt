@@ -13,11 +13,11 @@ returns-in-Schedule g c = λ program limit m.
     let w = loaded_world program limit in
     let same = c.new-events.ensures ∙ ap (λ s. events_made s w) (sym c.in-Schedule.is) in
     told_of (words g.O.Write.contents g.O.Watchable.ends) (words g.E.Write.contents g.E.Watchable.ends) (g.T.Teller.telling c.args.teller.now) _ _ c.tell_events.result c.args.out.now c.tell_events.new.out c.args.err.now c.tell_events.new.err
-    (ap (λ (es : List Event). Ok (told_run program limit es)) same) (c.tell_events.ensures program limit m)
+    (ap (λ (es : List Event). Ok (told_run program limit es)) same) (c.tell_events.ensures program limit m tt)
 
 pub returns-in-RoundRobin : goal.returns-in-RoundRobin
 returns-in-RoundRobin g c = λ program limit m.
     let w = loaded_world program limit in
-    let same = c.new-events-in-RoundRobin.ensures w ∙ ap (λ s. events_made s w) (sym c.in-RoundRobin.is) in
+    let same = c.new-events-in-RoundRobin.ensures.due w ∙ ap (λ s. events_made s w) (sym c.in-RoundRobin.is) in
     told_of (words g.O.Write.contents g.O.Watchable.ends) (words g.E.Write.contents g.E.Watchable.ends) (g.T.Teller.telling c.args.teller.now) _ _ c.tell_events-in-RoundRobin.result c.args.out.now c.tell_events-in-RoundRobin.new.out c.args.err.now c.tell_events-in-RoundRobin.new.err
-    (ap (λ (es : List Event). Ok (told_run program limit es)) same) (c.tell_events-in-RoundRobin.ensures program limit m)
+    (ap (λ (es : List Event). Ok (told_run program limit es)) same) (c.tell_events-in-RoundRobin.ensures program limit m (c.new-events-in-RoundRobin.ensures.knows w))
