@@ -7,11 +7,11 @@ ghost use Rattle.jm_machine.specs.Readers.{model_frame, model_value, IsOfProgram
 ghost use Rattle.jm_debug.specs.Texts.{frame_text};
 ghost use Rattle.jm_trace.specs.Doings.{doing_text, instruction_text, next_text, operand_text, operands_text, standing_text, switch_word, texts_of};
 
+use jm_blocked_threads::instruction_of;
 use jm_debug::text::{LineText, StageText, ValueText, line_of, place_of_method};
 use jm_heap::Heap;
 use jm_machine::{MethodFrame, WorldFrame, WorldValue};
 use jm_program::{Instr, Method, Plain};
-use jm_blocked_threads::instruction_of;
 use std::alloc::AllocError;
 use std::fmt::Write;
 

@@ -11,11 +11,11 @@ ghost use Rattle.jm_trace.specs.Traces.{trace};
 
 use crate::event_line::{write_before, write_behind};
 use crate::shown::{Shown, is_shown};
+use jm_blocked_threads::is_blocked;
 use jm_events::EventsDue;
 use jm_heap::Heap;
 use jm_machine::Machine;
 use jm_page::{PageFault, PageWriter};
-use jm_blocked_threads::is_blocked;
 use jm_world::{Event, Reply};
 use std::alloc::{AllocError, Global};
 

@@ -10,13 +10,13 @@ ghost use Rattle.jm_why.specs.Faults.{caller_room, found_and_wanted, found_opera
 
 use crate::locals::local_of;
 use crate::needs::write_needs;
+use jm_blocked_threads::instruction_of;
 use jm_debug::text::ValueText;
 use jm_heap::Heap;
 use jm_machine::{Machine, MethodFrame, WorldFrame, WorldValue};
 use jm_program::{Code, Instr, Method};
 use jm_trace::write_operands;
 use jm_values::TagFault;
-use jm_blocked_threads::instruction_of;
 use std::alloc::AllocError;
 use std::fmt::Write;
 

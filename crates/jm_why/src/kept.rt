@@ -7,9 +7,9 @@ ghost use Rattle.jm_machine.specs.View.{MatchesWorld};
 ghost use Rattle.jm_why.specs.Kept.{kept_behind, nothing_kept, pending_before, stopped_behind};
 
 use crate::throws::{Throw, keep_throws, pending_before};
+use jm_blocked_threads::{is_blocked, waiting_after};
 use jm_heap::Heap;
 use jm_machine::Machine;
-use jm_blocked_threads::{is_blocked, waiting_after};
 use jm_world::{Event, Reply, ReplyKind};
 use std::alloc::{AllocError, Global};
 use std::marker::Model;

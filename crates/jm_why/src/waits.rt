@@ -6,9 +6,9 @@ ghost use Rattle.jm_machine.specs.Readers.{model_frame, IsOfProgram};
 ghost use Rattle.jm_machine.specs.View.{MatchesWorld};
 ghost use Rattle.jm_why.specs.Waits.{awaited_text, frame_waits, holds_text, waits_text};
 
+use jm_blocked_threads::{asked_by_method, is_waiting};
 use jm_heap::Heap;
 use jm_machine::{Machine, WorldFrame};
-use jm_blocked_threads::{asked_by_method, is_waiting};
 use std::alloc::AllocError;
 use std::fmt::Write;
 

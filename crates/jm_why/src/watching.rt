@@ -7,10 +7,10 @@ ghost use Rattle.jm_machine.specs.View.{MatchesWorld};
 ghost use Rattle.jm_why.specs.Kept.{kept_of};
 
 use crate::kept::Kept;
+use jm_blocked_threads::is_blocked;
 use jm_events::EventsDue;
 use jm_heap::Heap;
 use jm_machine::Machine;
-use jm_blocked_threads::is_blocked;
 use std::alloc::{AllocError, Global};
 
 /// Makes the events that are due from a machine's world on, and keeps what is told of them. `AllocError`: a growth was
