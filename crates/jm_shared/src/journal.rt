@@ -110,6 +110,7 @@ impl<H: Heap, R: Origin> Journal<H, R> {
     /// in that nursery.
     /// `OutOfMemory`: there is no new entry, and the machine is that of the world before. It comes
     /// after 2^64 - 1 turns too, since no number is left.
+    #[inline(always)]
     pub fn turn(&mut self, seat: u8, event: Event) -> Result<Receipt, OutOfMemory>
         ensures receipt { IfOk result (λ receipt. receipt ≡ receipt_of (length self.old.entries) (entry_of seat event receipt.reply)) }
         ensures entries { MatchResult result (λ receipt. self.new.entries ≡ self.old.entries ++ entry_of seat event receipt.reply ∷ []) (λ _. self.new.entries ≡ self.old.entries) }
