@@ -6,7 +6,7 @@ ghost use Rattle.jm_program.specs.Names.{same_text};
 ghost use Rattle.jm_builtins.specs.List.{the_builtins};
 ghost use Rattle.jm_world.specs.Classes.{built_in_named, class_named};
 ghost use Rattle.jm_findings.specs.Others.{has_main, methods_of};
-ghost use Rattle.jm_findings.specs.Places.{class_text, numbered_text};
+ghost use Rattle.jm_findings.specs.Places.{class_text, counted_text, numbered_text};
 
 use jm_builtins::BuiltIn;
 use jm_linker::has_main;
@@ -31,8 +31,21 @@ pub fn write_class<W: fmt::Write>(
     }
 }
 
+// Writes the name of a class and its number.
+#[tactic(auto, unfolding(crate::specs::Places::counted_text))]
+fn write_counted<W: fmt::Write>(
+    f: &mut fmt::Formatter<W>,
+    class: &Class,
+    counted: usize,
+) -> fmt::Result
+    ensures { WritesOnOk W.write_str_gives f.old result (counted_text class.now counted) f.new }
+{
+    let name = &class.parts().name;
+    write!(f, "{name}, class {counted}")
+}
+
 /// Writes the name of the class of a number, counted from 0, and the number, counted from 1.
-#[tactic(auto, unfolding(crate::specs::Places::numbered_text, crate::specs::Places::counted_text))]
+#[tactic(auto, unfolding(crate::specs::Places::numbered_text))]
 pub fn write_numbered_class<W: fmt::Write>(
     f: &mut fmt::Formatter<W>,
     program: &[Class],
@@ -41,11 +54,7 @@ pub fn write_numbered_class<W: fmt::Write>(
     ensures { WritesOnOk W.write_str_gives f.old result (numbered_text (slice_get program.now number) number) f.new }
 {
     match program.get(number) {
-        Some(class) => {
-            let name = &class.parts().name;
-            let counted = number + 1;
-            write!(f, "{name}, class {counted}")
-        }
+        Some(class) => write_counted(f, class, number + 1),
         None => Ok(()),
     }
 }

@@ -1,10 +1,10 @@
 // The line of a finding.
 
-ghost use Rattle.std.specs.Prelude.{◌≡◌, ◌++◌, Some, slice_get};
+ghost use Rattle.std.specs.Prelude.{◌≡◌, ◌++◌, Some, option_copied, slice_get};
 ghost use Rattle.std.specs.Fmt.{WritesOnOk};
 ghost use Rattle.jm_builtins.specs.List.{the_builtins};
 ghost use Rattle.jm_findings.specs.Places.{class_text};
-ghost use Rattle.jm_findings.specs.Lines.{catch_in_class, catch_text, finding_line, handler_in, instruction_in, site_text, use_in_class, use_text};
+ghost use Rattle.jm_findings.specs.Lines.{catch_in_class, catch_in_method, catch_text, finding_line, handler_in, instruction_in, site_text, use_in_class, use_in_method, use_text};
 
 use crate::class::{write_class, write_numbered_class};
 use crate::main_classes::write_main;
@@ -13,7 +13,7 @@ use crate::place::write_place;
 use crate::reference::write_needed;
 use jm_builtins::BuiltIn;
 use jm_linker::{Finding, LinkFault, Site};
-use jm_program::{Class, ClassParts, Method};
+use jm_program::{Class, ClassParts, Handler, Instr, Method};
 use std::fmt;
 use std::fmt::Display;
 
@@ -28,7 +28,26 @@ pub struct FindingLine<'a> {
     ghost complete: { built_ins.now ≡ the_builtins },
 }
 
-// Writes where the row of a number in the exception table of a method stands.
+// The instruction of a number in a method's code.
+fn instruction_in(method: &Method, number: usize) -> Option<&Instr>
+    ensures { option_copied result ≡ instruction_in method.now number }
+{
+    match &method.code {
+        Some(code) => code.instructions.as_slice().get(number),
+        None => None,
+    }
+}
+
+// The row of a number in the exception table of a method's code.
+fn handler_in(method: &Method, number: usize) -> Option<&Handler>
+    ensures { option_copied result ≡ handler_in method.now number }
+{
+    match &method.code {
+        Some(code) => code.handlers.as_slice().get(number),
+        None => None,
+    }
+}
+
 #[tactic(auto, unfolding(crate::specs::Lines::catch_text))]
 fn write_catch<W: fmt::Write>(
     f: &mut fmt::Formatter<W>,
@@ -38,14 +57,28 @@ fn write_catch<W: fmt::Write>(
 ) -> fmt::Result
     ensures { WritesOnOk W.write_str_gives f.old result (catch_text class.now method.now (handler_in method.now number)) f.new }
 {
-    let Some(code) = &method.code else {
-        return Ok(());
-    };
-    let Some(handler) = code.handlers.as_slice().get(number) else {
-        return Ok(());
-    };
-    write_place(f, class, method, u64::from(handler.target))?;
-    f.write_str(", as a catch type")
+    match handler_in(method, number) {
+        Some(handler) => {
+            write_place(f, class, method, u64::from(handler.target))?;
+            f.write_str(", as a catch type")
+        }
+        None => Ok(()),
+    }
+}
+
+#[tactic(auto, unfolding(crate::specs::Lines::catch_in_method))]
+fn write_catch_in<W: fmt::Write>(
+    f: &mut fmt::Formatter<W>,
+    class: &ClassParts,
+    method: usize,
+    number: usize,
+) -> fmt::Result
+    ensures { WritesOnOk W.write_str_gives f.old result (catch_in_method class.now (slice_get class.now.methods method) number) f.new }
+{
+    match class.methods.as_slice().get(method) {
+        Some(method) => write_catch(f, class, method, number),
+        None => Ok(()),
+    }
 }
 
 // Writes the class of a number, and as what it names a class over it.
@@ -62,7 +95,6 @@ fn write_over<W: fmt::Write>(
 }
 
 impl FindingLine<'_> {
-    // Writes what an instruction refers to, where it stands, and what there is instead.
     #[tactic(auto, unfolding(crate::specs::Lines::use_text))]
     fn write_use<W: fmt::Write>(
         &self,
@@ -74,19 +106,35 @@ impl FindingLine<'_> {
         ensures { WritesOnOk W.write_str_gives f.old result
             (use_text self.now.program.now self.now.finding.now.fault class.now method.now number (instruction_in method.now number)) f.new }
     {
-        let Some(code) = &method.code else {
-            return Ok(());
-        };
-        let Some(instruction) = code.instructions.as_slice().get(number) else {
-            return Ok(());
-        };
         let fault = &self.finding.fault;
-        write_needed(f, fault, instruction)?;
-        write_place(f, class, method, number as u64)?;
-        write_instead(f, self.program, self.built_ins, fault, instruction)
+        match instruction_in(method, number) {
+            Some(instruction) => {
+                write_needed(f, fault, instruction)?;
+                write_place(f, class, method, number as u64)?;
+                write_instead(f, self.program, self.built_ins, fault, instruction)
+            }
+            None => Ok(()),
+        }
     }
 
-    #[tactic(auto, unfolding(crate::specs::Lines::use_in_class, crate::specs::Lines::use_in_method))]
+    #[tactic(auto, unfolding(crate::specs::Lines::use_in_method))]
+    fn write_use_in<W: fmt::Write>(
+        &self,
+        f: &mut fmt::Formatter<W>,
+        class: &ClassParts,
+        method: usize,
+        number: usize,
+    ) -> fmt::Result
+        ensures { WritesOnOk W.write_str_gives f.old result
+            (use_in_method self.now.program.now self.now.finding.now.fault class.now (slice_get class.now.methods method) number) f.new }
+    {
+        match class.methods.as_slice().get(method) {
+            Some(method) => self.write_use(f, class, method, number),
+            None => Ok(()),
+        }
+    }
+
+    #[tactic(auto, unfolding(crate::specs::Lines::use_in_class))]
     fn write_instruction<W: fmt::Write>(
         &self,
         f: &mut fmt::Formatter<W>,
@@ -97,17 +145,13 @@ impl FindingLine<'_> {
         ensures { WritesOnOk W.write_str_gives f.old result
             (use_in_class self.now.program.now self.now.finding.now.fault (slice_get self.now.program.now class) method number) f.new }
     {
-        let Some(class) = self.program.get(class) else {
-            return Ok(());
-        };
-        let class = class.parts();
-        match class.methods.as_slice().get(method) {
-            Some(method) => self.write_use(f, class, method, number),
+        match self.program.get(class) {
+            Some(class) => self.write_use_in(f, class.parts(), method, number),
             None => Ok(()),
         }
     }
 
-    #[tactic(auto, unfolding(crate::specs::Lines::catch_in_class, crate::specs::Lines::catch_in_method))]
+    #[tactic(auto, unfolding(crate::specs::Lines::catch_in_class))]
     fn write_handler<W: fmt::Write>(
         &self,
         f: &mut fmt::Formatter<W>,
@@ -117,12 +161,8 @@ impl FindingLine<'_> {
     ) -> fmt::Result
         ensures { WritesOnOk W.write_str_gives f.old result (catch_in_class (slice_get self.now.program.now class) method number) f.new }
     {
-        let Some(class) = self.program.get(class) else {
-            return Ok(());
-        };
-        let class = class.parts();
-        match class.methods.as_slice().get(method) {
-            Some(method) => write_catch(f, class, method, number),
+        match self.program.get(class) {
+            Some(class) => write_catch_in(f, class.parts(), method, number),
             None => Ok(()),
         }
     }

@@ -34,16 +34,16 @@ returns-in_default-clause-written g c = λ w m k.
     let so_far = c.loop-number.invariant w m k in
     (so_far.3, (_, so_far.5), so_far.4)
 
-pub returns-in_default-in-Ok-clause-written : goal.returns-in_default-in-Ok-clause-written
-returns-in_default-in-Ok-clause-written g c = λ w m k.
+pub returns-in_default-next-clause-written : goal.returns-in_default-next-clause-written
+returns-in_default-next-clause-written g c = λ w m k.
     let so_far = c.loop-number.invariant w m k in
-    let none = rw c.in_default-in-Ok.is at (c.in-Ok.ensures so_far.0 so_far.1 so_far.2) in
+    let none = rw c.in_default-next.is at (c.in-Ok.ensures so_far.0 so_far.1 so_far.2) in
     subst (λ t. g.P.PageWriter.wrote c.args.page.now t c.loop-number.page) (none_due c.args.shown c.loop-number.number c.loop-number.left so_far.0 _ so_far.3 _ none.0 so_far.5) so_far.4
 
-pub returns-in_default-in-Ok-clause-made : goal.returns-in_default-in-Ok-clause-made
-returns-in_default-in-Ok-clause-made g c = λ w m k.
+pub returns-in_default-next-clause-made : goal.returns-in_default-next-clause-made
+returns-in_default-next-clause-made g c = λ w m k.
     let so_far = c.loop-number.invariant w m k in
-    let none = rw c.in_default-in-Ok.is at (c.in-Ok.ensures so_far.0 so_far.1 so_far.2) in
+    let none = rw c.in_default-next.is at (c.in-Ok.ensures so_far.0 so_far.1 so_far.2) in
     subst (MatchesWorld c.loop-number.machine) (none_made so_far.0 _ _ none.0 so_far.6) so_far.1
 
 pub returns-in_err-put_told-clause-written : goal.returns-in_err-put_told-clause-written
