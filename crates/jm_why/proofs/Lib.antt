@@ -1,3 +1,4 @@
 pub mod Threads
 pub mod Watched
 pub mod WaitsOf
+pub mod Joined

@@ -22,7 +22,24 @@ use std::fmt::Write;
 
 // ---- what was found
 
-// Writes a local variable: there is none of that number, it is not set, or its value.
+// Writes a local variable, which may be set.
+fn write_set_local(
+    out: &mut String,
+    number: u16,
+    value: Option<WorldValue>,
+) -> Result<(), AllocError>
+    ensures { OnOk result (out.new.bytes.items ≡ out.old.bytes.items ++ local_text number (Some (option_map model_value value))) }
+{
+    match value {
+        Some(value) => {
+            let value = ValueText(value);
+            write!(out, ", local variable {number} is {value}")
+        }
+        None => write!(out, ", local variable {number} not set"),
+    }
+}
+
+// Writes a local variable, if there is one of the number.
 fn write_local(
     out: &mut String,
     number: u16,
@@ -31,11 +48,7 @@ fn write_local(
     ensures { OnOk result (out.new.bytes.items ≡ out.old.bytes.items ++ local_text number (option_map (option_map model_value) local)) }
 {
     match local {
-        Some(Some(value)) => {
-            let value = ValueText(value);
-            write!(out, ", local variable {number} is {value}")
-        }
-        Some(None) => write!(out, ", local variable {number} not set"),
+        Some(value) => write_set_local(out, number, value),
         None => write!(out, ", no local variable {number} (.limit locals)"),
     }
 }

@@ -3,7 +3,7 @@
 ghost use Rattle.std.specs.Prelude.{◌≡◌, ◌++◌, OnOk};
 ghost use Rattle.jm_world.specs.World.{World, reach_cells, thread_at};
 ghost use Rattle.jm_machine.specs.View.{MatchesWorld};
-ghost use Rattle.jm_why.specs.Stops.{full_text, stop_told, wanted_text};
+ghost use Rattle.jm_why.specs.Stops.{full_text, stop_at, stop_line, stop_of_thread, stop_told, wanted_text};
 
 use crate::faults::write_fault;
 use crate::frames::write_frames;
@@ -53,9 +53,50 @@ fn write_wanted<H: Heap>(
     }
 }
 
+// Writes the line of a stop.
+#[tactic(auto, unfolding(crate::specs::Stops::stop_line))]
+fn write_stop_line(out: &mut String, thread: u64, number: u64, stop: Stop) -> Result<(), AllocError>
+    ensures { OnOk result (out.new.bytes.items ≡ out.old.bytes.items ++ stop_line thread number stop) }
+{
+    let stop = StopText(stop);
+    write!(out, "t{thread} stopped at event {number}: {stop}\n")
+}
+
+// Writes a stop that a step of a thread came to.
+fn write_stop_of<H: Heap>(
+    out: &mut String,
+    machine: &Machine<H>,
+    number: u64,
+    thread: u64,
+    stop: Stop,
+) -> Result<(), AllocError>
+    ensures { (w : World) → MatchesWorld machine.now w
+        → OnOk result (out.new.bytes.items ≡ out.old.bytes.items ++ stop_of_thread w number thread stop) }
+{
+    write_stop_line(out, thread, number, stop)?;
+    write_frames(out, machine, thread)?;
+    write_wanted(out, machine, thread, stop)
+}
+
+// Writes a stop that the event of a number came to.
+fn write_stop_at<H: Heap>(
+    out: &mut String,
+    machine: &Machine<H>,
+    stop: Stop,
+    stopped: Stopped,
+) -> Result<(), AllocError>
+    ensures { (w : World) → MatchesWorld machine.now w
+        → OnOk result (out.new.bytes.items ≡ out.old.bytes.items ++ stop_at w stopped.number stop stopped.event) }
+{
+    match stopped.event {
+        Event::Step(thread) => write_stop_of(out, machine, stopped.number, thread, stop),
+        Event::Minor => Ok(()),
+        Event::Full => Ok(()),
+    }
+}
+
 /// Writes a stop: its thread and event, the thread's frames, and what was found and wanted. `AllocError`: a growth was
 /// refused.
-#[tactic(auto, unfolding(crate::specs::Stops::stop_line))]
 pub fn write_stopped<H: Heap>(
     out: &mut String,
     machine: &Machine<H>,
@@ -65,17 +106,8 @@ pub fn write_stopped<H: Heap>(
     ensures { (w : World) → MatchesWorld machine.now w
         → OnOk result (out.new.bytes.items ≡ out.old.bytes.items ++ stop_told w stop stopped) }
 {
-    let Some(stopped) = stopped else {
-        return Ok(());
-    };
-    match stopped.event {
-        Event::Step(thread) => {
-            let number = stopped.number;
-            let text = StopText(stop);
-            write!(out, "t{thread} stopped at event {number}: {text}\n")?;
-            write_frames(out, machine, thread)?;
-            write_wanted(out, machine, thread, stop)
-        }
-        Event::Minor | Event::Full => Ok(()),
+    match stopped {
+        Some(stopped) => write_stop_at(out, machine, stop, stopped),
+        None => Ok(()),
     }
 }
