@@ -70,8 +70,7 @@ use Rattle.jm_world.specs.declared.stage.Stage.TheVariants.{Begin, Superclass, I
 use Rattle.jm_world.specs.declared.event.Event.{Event}
 use Rattle.jm_world.specs.declared.event.Event.TheVariants.{Step, Minor, Full}
 use Rattle.jm_world.specs.declared.stop.Stop.{Stop}
-use Rattle.jm_world.proofs.Fitting.{grown}
-use Rattle.jm_world.proofs.KeepingForm.{with_monitors}
+use Rattle.jm_world.proofs.Fitting.{grown, with_monitors}
 use Rattle.jm_debug.specs.Kept.{OthersStay, ended_in, has_stopped}
 use Rattle.jm_interp.proofs.Started.{live_few}
 

@@ -143,20 +143,20 @@ fn superclasses_in(
 // interfaces come right after Object. What is expected is looked at by `order_of`, so nothing need be
 // known of it.
 #[derive(Clone, Copy)]
-struct Turn {
+struct ClassExpected {
     rank: u32,
     depth: u8,
     number: u32,
 }
 
 // When the built-in class of a number is expected.
-fn turn_of_built_in<'a>(classes: &Classes<'a>, number: usize, short: u32) -> Turn {
+fn built_in_expected<'a>(classes: &Classes<'a>, number: usize, short: u32) -> ClassExpected {
     let depth = match classes.class_at(number) {
         Some(class) if class.superclass.is_none() => 0,
         Some(class) if class.flags.has(AccessFlags::INTERFACE) => 1,
         _ => 2,
     };
-    Turn {
+    ClassExpected {
         rank: 0,
         depth,
         number: short,
@@ -170,25 +170,25 @@ fn expected_order<'a>(
     ranks: &[u32],
 ) -> Result<Vec<u32>, AllocError> {
     let built_ins = classes.built_ins.len();
-    let mut turns = Vec::with_capacity(alloc, classes.height())?;
+    let mut expected = Vec::with_capacity(alloc, classes.height())?;
     for number in 0..classes.height() {
         let Ok(short) = u32::try_from(number) else {
             return Err(AllocError);
         };
-        let turn = match number.checked_sub(built_ins) {
-            Some(own) => Turn {
+        let class = match number.checked_sub(built_ins) {
+            Some(own) => ClassExpected {
                 rank: ranks.get(own).copied().unwrap_or(0),
                 depth: 0,
                 number: short,
             },
-            None => turn_of_built_in(classes, number, short),
+            None => built_in_expected(classes, number, short),
         };
-        turns.push(turn)?;
+        expected.push(class)?;
     }
-    turns.sort_unstable_by_key(|turn| (turn.rank, turn.depth, turn.number));
-    let mut order = Vec::with_capacity(alloc, turns.len())?;
-    for turn in turns.as_slice() {
-        order.push(turn.number)?;
+    expected.sort_unstable_by_key(|class| (class.rank, class.depth, class.number));
+    let mut order = Vec::with_capacity(alloc, expected.len())?;
+    for class in expected.as_slice() {
+        order.push(class.number)?;
     }
     Ok(order)
 }

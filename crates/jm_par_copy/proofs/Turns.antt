@@ -4,7 +4,7 @@ use Rattle.std.specs.Prelude.{drop}
 use Rattle.std.specs.List.{Contains}
 use Rattle.jm_par_copy.specs.Working.{held_by}
 use Rattle.jm_par_copy.specs.Together.{of_share}
-use Rattle.jm_par_copy.specs.Turns.{Turn, wins_before, wins_after, held_after, AllAdd, IsShared}
+use Rattle.jm_par_copy.specs.Turns.{CopierRound, wins_before, wins_after, held_after, AllAdd, IsShared}
 use Rattle.jm_par_copy.proofs.Listing.{Has, has_from, contains_from, has_left, has_right, has_both, of_share_from, of_share_has}
 
 drop_front : (xs ys : List (ℕ × ℕ)) → drop (length xs) (xs ++ ys) ≡ ys
@@ -17,7 +17,7 @@ dropped (suc k) [] w h = h
 dropped (suc k) (x ∷ xs) w h = inr (dropped k xs w h)
 
 -- what was won before is won
-still : (ts : List Turn) → AllAdd ts → (w : ℕ × ℕ) → Has (wins_before ts) w → Has (wins_after ts) w
+still : (ts : List CopierRound) → AllAdd ts → (w : ℕ × ℕ) → Has (wins_before ts) w → Has (wins_after ts) w
 still [] a w h = h
 still (t ∷ ts) a w h = by (still ts a.1 w) (has_both t.before.wins (wins_before ts) w h)
   where
@@ -25,7 +25,7 @@ still (t ∷ ts) a w h = by (still ts a.1 w) (has_both t.before.wins (wins_befor
     by rest (inl g) = has_left t.after.wins (wins_after ts) w (subst (λ ws. Has ws w) (sym a.0.added) (has_left t.before.wins a.0.more w g))
     by rest (inr g) = has_right t.after.wins (wins_after ts) w (rest g)
 
-held_won : (wins : List (ℕ × ℕ)) (ts : List Turn) (w : ℕ × ℕ) → Has (held_after wins ts) w → Has wins w ⊎ Has (wins_after ts) w
+held_won : (wins : List (ℕ × ℕ)) (ts : List CopierRound) (w : ℕ × ℕ) → Has (held_after wins ts) w → Has wins w ⊎ Has (wins_after ts) w
 held_won wins [] w h = inr h
 held_won wins (t ∷ ts) w h = by (held_won wins ts w) (has_both (held_by (of_share t.share wins) (length t.before.wins) t.after) (held_after wins ts) w h)
   where
@@ -42,7 +42,7 @@ held_won wins (t ∷ ts) w h = by (held_won wins ts w) (has_both (held_by (of_sh
     by rest (inr g) = others (rest g)
 
 -- what was won before lies in a share
-shared : (wins : List (ℕ × ℕ)) (ts : List Turn) (w : ℕ × ℕ) → Has wins w → IsShared ts w.1 → Has (held_after wins ts) w
+shared : (wins : List (ℕ × ℕ)) (ts : List CopierRound) (w : ℕ × ℕ) → Has wins w → IsShared ts w.1 → Has (held_after wins ts) w
 shared wins [] w h s = absurd s
 shared wins (t ∷ ts) w h s = by (shared wins ts w h) s
   where
@@ -50,7 +50,7 @@ shared wins (t ∷ ts) w h s = by (shared wins ts w h) s
     by rest (inl e) = has_left (held_by (of_share t.share wins) (length t.before.wins) t.after) (held_after wins ts) w (has_left (of_share t.share wins) (drop (length t.before.wins) t.after.wins) w (of_share_from t.share wins w h e))
     by rest (inr e) = has_right (held_by (of_share t.share wins) (length t.before.wins) t.after) (held_after wins ts) w (rest e)
 
-won_held : (wins : List (ℕ × ℕ)) (ts : List Turn) → AllAdd ts → (w : ℕ × ℕ) → Has (wins_after ts) w → Has (wins_before ts) w ⊎ Has (held_after wins ts) w
+won_held : (wins : List (ℕ × ℕ)) (ts : List CopierRound) → AllAdd ts → (w : ℕ × ℕ) → Has (wins_after ts) w → Has (wins_before ts) w ⊎ Has (held_after wins ts) w
 won_held wins [] a w h = inl h
 won_held wins (t ∷ ts) a w h = by (won_held wins ts a.1 w) (has_both t.after.wins (wins_after ts) w h)
   where
@@ -70,7 +70,7 @@ won_held wins (t ∷ ts) a w h = by (won_held wins ts a.1 w) (has_both t.after.w
     by rest (inr g) = others (rest g)
 
 -- of one pair: it need only lie in a share where it was won before
-pub held_is_won : (ts : List Turn) → AllAdd ts → (w : ℕ × ℕ) → (Contains (wins_before ts) w → IsShared ts w.1) → (Contains (held_after (wins_before ts) ts) w → Contains (wins_after ts) w) × (Contains (wins_after ts) w → Contains (held_after (wins_before ts) ts) w)
+pub held_is_won : (ts : List CopierRound) → AllAdd ts → (w : ℕ × ℕ) → (Contains (wins_before ts) w → IsShared ts w.1) → (Contains (held_after (wins_before ts) ts) w → Contains (wins_after ts) w) × (Contains (wins_after ts) w → Contains (held_after (wins_before ts) ts) w)
 held_is_won ts a w cover = (λ c. to (held_won wins ts w (has_from (held_after wins ts) w c)), λ c. from (won_held wins ts a w (has_from (wins_after ts) w c)))
   where
     wins : List (ℕ × ℕ)

@@ -21,7 +21,7 @@ use Rattle.jm_par_copy.specs.Roots.{IsRooted, RootsStand}
 use Rattle.jm_par_copy.specs.Round.{AreReady, AreRound, IsReady}
 use Rattle.jm_par_copy.specs.Strides.{OwnsEnds, owner_of}
 use Rattle.jm_par_copy.specs.Together.{Part, joint, joint_done, moved_by_wins}
-use Rattle.jm_par_copy.specs.Turns.{Turn}
+use Rattle.jm_par_copy.specs.Turns.{CopierRound}
 use Rattle.jm_par_copy.specs.Working.{IsNew, Pairs, WinsAreOwn, both, scan_progress}
 use Rattle.jm_par_copy.specs.declared.piece.Piece.{Piece}
 use Rattle.jm_par_copy.specs.declared.copier.Copier.{Copier}
@@ -219,7 +219,7 @@ abbrev pub share : (ℕ → Option Object) → ℕ → Bool
 share f n = is_object (f n)
 
 -- the round of each, with what is set aside last
-abbrev pub turns : List Copier → List Copier → List Piece → List Turn
+abbrev pub turns : List Copier → List Copier → List Piece → List CopierRound
 turns [] ds aside = record { share = share (held_objects aside); before = fresh 0 0; after = fresh 0 0 } ∷ []
 turns (c ∷ cs) [] aside = []
 turns (c ∷ cs) (d ∷ ds) aside = record { share = share (contents c); before = c.own.seat.hand; after = d.own.seat.hand } ∷ turns cs ds aside

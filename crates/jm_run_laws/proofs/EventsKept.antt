@@ -13,26 +13,24 @@ use Rattle.jm_world.specs.Types.{ObjectType, instance_of}
 use Rattle.jm_world.specs.Classes.{FoundMethod, name_of_method, class_named, method_named, error_class}
 use Rattle.jm_world.specs.Resolution.{select}
 use Rattle.jm_world.specs.Frames.{Frame, method_frame, initialization_frame, entry_frame}
-use Rattle.jm_world.specs.World.{World, Thread, thread_at, is_running, with_state, state_of}
-use Rattle.jm_world.specs.Next.{Next, goes, stops, blocks, exception}
+use Rattle.jm_world.specs.World.{World, Thread, thread_at, with_state, state_of}
+use Rattle.jm_world.specs.Next.{goes, exception}
 use Rattle.jm_world.specs.Here.{with_frames}
 use Rattle.jm_world.specs.Invocation.{activation_of, monitor_of, class_of}
 use Rattle.jm_world.specs.Throwing.{is_kind_of, catches, handler_in, handlers_of, handle, unwound, unwound_anew, drop_method, unwind_frames, unwind}
 use Rattle.jm_world.specs.Initialization.{begin, superclass_name, is_done, superclass_first, initializer_of, call_initializer, run_initializer, initialize}
 use Rattle.jm_world.specs.Stepping.{run_type, enter_code, enter_found, enter_thread, step_frame, step_thread}
-use Rattle.jm_world.specs.Run.{after, After, answered, after_step, after_thread, after_event, run_from}
-use Rattle.jm_world.specs.declared.reply.ReplyKind.TheVariants as kind
+use Rattle.jm_world.specs.Run.{after, run_from}
 use Rattle.jm_world.specs.declared.class_state.ClassState.{ClassState}
 use Rattle.jm_world.specs.declared.class_state.ClassState.TheVariants.{NotBegun, InProgress, Done, Failed}
 use Rattle.jm_world.specs.declared.stage.Stage.{Stage}
 use Rattle.jm_world.specs.declared.stage.Stage.TheVariants.{Begin, Superclass, Initializer, End}
 use Rattle.jm_world.specs.declared.event.Event.{Event}
-use Rattle.jm_world.specs.declared.event.Event.TheVariants.{Step, Minor, Full}
-use Rattle.jm_world.specs.declared.stop.Stop.{Stop}
 use Rattle.jm_world.specs.Loads.{Loads}
 use Rattle.jm_world.specs.Loading.{main_in, first_objects, first_thread, loaded_world}
+use Rattle.jm_world.proofs.KeptByEvents as by_steps
 use Rattle.jm_world.proofs.Fitting.{each_more, grown}
-use Rattle.jm_world.proofs.KeepingForm.{with_monitors}
+use Rattle.jm_world.proofs.Fitting.{with_monitors}
 use Rattle.jm_run_laws.proofs.CalledCode.{Begins, CallBegins, selected_begins, initializer_begins, main_begins}
 use Rattle.jm_run_laws.proofs.Law.{Law, is_thrown, IsKept, EachBelow, Frames, Pending, Its, Keeps}
 use Rattle.jm_world.proofs.KeepingNames.{events_keep_names}
@@ -145,31 +143,8 @@ module _ (L : Law) where
   its_frames w zero t h e = cc
   its_frames w (suc n) t h e = each_at (Its L w.heap) w.threads n t h.0 e
 
-  after_step_kept : (w : World) (x : Next) → Keeps L w → Kept L x → Keeps L (after_step w x).world
-  after_step_kept w (goes next) h f = f
-  after_step_kept w (stops s) h f = h
-  after_step_kept w blocks h f = h
-
-  after_thread_kept : (w : World) → AllByRecursion Fits w.program → Loads w.program → (number : ℕ) (o : Option Thread) → thread_at w number ≡ o → IsKept w.program L → Keeps L w → Keeps L (after_thread w number o).world
-  after_thread_kept w fits loads number None e l h = h
-  after_thread_kept w fits loads number (Some t) e l h = by (is_running t.ending)
-    where
-      by : (b : Bool) → Keeps L (elim b as (λ _. After) [ true ↦ after_step w (step_thread w number t) | false ↦ answered kind.Ended w ]).world
-      by true = after_step_kept w (step_thread w number t) h (step_thread_kept w fits loads number t l h (its_frames w number t h e))
-      by false = h
-
-  after_event_kept : (w : World) → AllByRecursion Fits w.program → Loads w.program → (e : Event) → IsKept w.program L → Keeps L w → Keeps L (after_event w e).world
-  after_event_kept w fits loads (Step number) l h = after_thread_kept w fits loads number (thread_at w number) refl l h
-  after_event_kept w fits loads Minor l h = h
-  after_event_kept w fits loads Full l h = h
-
   pub event_keeps : (w : World) (e : Event) → AllByRecursion Fits w.program → Loads w.program → IsKept w.program L → Keeps L w → Keeps L (after w e).world
-  unfolding after
-  event_keeps w e fits loads l h = by w.stop
-    where
-      by : (o : Option Stop) → Keeps L (elim o as (λ _. After) [ Some s ↦ answered kind.Stopped w | None ↦ after_event w e ]).world
-      by None = after_event_kept w fits loads e l h
-      by (Some s) = h
+  event_keeps w e fits loads l h = by_steps.event_keeps (Keeps L) w h (λ s. h) (λ n t d r. step_thread_kept w fits loads n t l h (its_frames w n t h d)) e
 
   from_keeps : (w : World) (es : List Event) → AllByRecursion Fits w.program → Loads w.program → IsKept w.program L → Keeps L w → Keeps L (run_from w es)
   from_keeps w [] fits loads l h = h

@@ -52,7 +52,7 @@ use Rattle.jm_world.specs.Resolution.{resolve_method, select}
 use Rattle.jm_world.specs.Objects.{Object, size, cells_of_all, FieldName, new_instance, new_array}
 use Rattle.jm_world.specs.Frames.{Frame, method_frame, initialization_frame, entry_frame}
 use Rattle.jm_world.specs.World.{World, Thread, Monitor, with_thread, state_of, reach_cells, literal_in, static_in, set_static_in}
-use Rattle.jm_world.specs.Next.{Next, goes, stops, blocks, faults, make, numbers_from, with_objects, make_all, exception, throw}
+use Rattle.jm_world.specs.Next.{Next, goes, faults, make, numbers_from, with_objects, make_all, exception, throw}
 use Rattle.jm_world.specs.Here.{Here, topped, moved_on, with_frames, go_on, go_on_in, throws, push, push_new, with_operand, with_int, with_reference, with_arguments, with_object, with_depth, push_frame, is_ready, all_frames, when_initialized}
 use Rattle.jm_world.specs.Monitors.{monitor_in, recounted, with_monitor, entered, enter, enter_if, left_in, leave, leave_if}
 use Rattle.jm_world.specs.Text.{number_text, char_text, utf8_text, units_of}
@@ -68,8 +68,9 @@ use Rattle.jm_world.specs.Throwing.{is_kind_of, row_throw}
 use Rattle.jm_world.specs.Stepping.{from_outcome, row_monitor, row, instruction_at, instruction_in, instruct}
 use Rattle.jm_world.specs.declared.stage.Stage.TheVariants.{Begin}
 use Rattle.jm_world.specs.Loads.{Loads, method_refusal}
+use Rattle.jm_world.proofs.KeptByEvents.{Behind}
 use Rattle.jm_world.proofs.Fitting.{each_more, grown}
-use Rattle.jm_world.proofs.KeepingForm.{with_monitors}
+use Rattle.jm_world.proofs.Fitting.{with_monitors}
 use Rattle.jm_run_laws.specs.LocalsOfRuns.{code_of}
 use Rattle.jm_run_laws.proofs.PlainStays.{Stays, plain_stays}
 use Rattle.jm_run_laws.proofs.LoadedCode.{StandsAt, stands_at}
@@ -93,9 +94,7 @@ thrown_bare class e = (both_true (is_bare class) (is_thrown_in 6 class) e).0
 -- what comes of a step keeps to the law
 module _ (L : Law) where
   abbrev pub Kept : Next → Type 0
-  Kept (goes v) = Keeps L v
-  Kept (stops s) = Unit {0}
-  Kept blocks = Unit {0}
+  Kept x = Behind (Keeps L) x
 
   pub if_known : (b : Bool) (x y : Next) → (b ≡ true → Kept x) → Kept y → Kept (elim b [ true ↦ x | false ↦ y ])
   if_known true x y f g = f refl

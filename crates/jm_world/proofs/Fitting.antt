@@ -9,7 +9,7 @@ use Rattle.jm_values.specs.Rename.{value_shape, stack_shape, locals_shape, refs_
 use Rattle.jm_values.specs.declared.value.Value.{Value}
 use Rattle.jm_values.specs.declared.value.Value.TheVariants.{Int, Long, Null, Ref}
 use Rattle.jm_values.proofs.Among.{among_left, among_right, among_split}
-use Rattle.jm_values.proofs.Lists.{each_at, each_of_both, each_set}
+use Rattle.jm_values.proofs.Lists.{each_of_both, each_set}
 use Rattle.jm_world.specs.Objects.{Object}
 use Rattle.jm_world.specs.Frames.{Frame, method_frame, initialization_frame, entry_frame}
 use Rattle.jm_world.specs.World.{World, Thread, Monitor, with_thread}
@@ -155,6 +155,10 @@ with_objects_fits w os f g =
       once = f.once;
       threads = each_more (thread_more n m l) w.threads f.threads;
     }
+
+-- a world with other monitors
+abbrev pub with_monitors : World → List Monitor → World
+with_monitors w ms = record w { monitors = ms }
 
 -- a world with one more object
 abbrev pub grown : World → Object → World

@@ -1,86 +1,65 @@
--- The words of the rows keep the frames of a world, and who initializes its classes.
-use Rattle.std.proofs.Common.{◌≡◌, ◌≢◌, ℕ, zero, suc, ◌+◌, ◌-◌, ◌^◌, ◌<◌, ◌≤◌, List, [], ◌∷◌, Option, Some, None, Bool, true, false, refl, sym, ap, ◌∙◌, subst, inl, inr, ◌⊎◌, length, arith, ℤ, pos, negsuc}
-use Rattle.std.specs.Prelude.{slice_get, slice_set, nat_eq, nat_lt, nat_le, codes}
+-- An event keeps the frames of a world, and who initializes its classes, and so do runs.
+use Rattle.std.proofs.Common.{◌≡◌, ◌≢◌, ℕ, zero, suc, ◌-◌, ◌≤◌, List, [], ◌∷◌, ◌++◌, Option, Some, None, Bool, true, false, refl, sym, ap, ◌∙◌, subst, inl, inr, ◌⊎◌, length, arith}
+use Rattle.std.specs.Prelude.{map, slice_get, slice_set, nat_eq}
 use Rattle.std.specs.List.{AllByRecursion}
-use Rattle.std.proofs.lemmas.Bool.{ltb-true, leb-true}
 use Rattle.std.proofs.lemmas.Bool.Decides.{eqb_tells}
-use Rattle.jm_program.specs.declared.descriptor.FieldType.{FieldType}
-use Rattle.jm_program.specs.declared.instruction.operation.OperandType.{OperandType}
-use Rattle.jm_values.specs.Activation.{Activation, units}
-use Rattle.jm_values.specs.Steps.{is_of}
-use Rattle.jm_values.specs.WellFormed.{IsWellFormed}
+use Rattle.std.specs.Cmp.Lexicographic.{bytes_decides}
+use Rattle.jm_program.specs.Names.{same_text}
+use Rattle.jm_program.specs.declared.class.ClassParts.{ClassParts}
+use Rattle.jm_program.specs.declared.code.Code.{Code}
+use Rattle.jm_values.specs.WellFormed.{IsWellFormed, LongsAreWhole, KeepsForm}
 use Rattle.jm_values.specs.declared.value.Value.{Value}
 use Rattle.jm_values.specs.declared.value.Value.TheVariants.{Int, Long, Null, Ref}
-use Rattle.jm_values.proofs.Lists.{each_at, each_set}
-use Rattle.jm_world.specs.Types.{operand_of}
-use Rattle.jm_world.specs.Objects.{Object, size, cells_of_all}
+use Rattle.jm_values.proofs.Lists.{each_at, each_set, each_of_both, set_there}
+use Rattle.jm_values.proofs.KeepsForm.{plain_keeps}
+use Rattle.jm_world.specs.Classes.{FoundMethod, name_of_method}
 use Rattle.jm_world.specs.Frames.{Frame, method_frame, initialization_frame}
-use Rattle.jm_world.specs.World.{World, Thread, Monitor, with_thread, thread_at, reach_cells, state_of, state_in}
-use Rattle.jm_world.specs.Next.{Next, goes, stops, blocks, make, numbers_from, with_objects, make_all, exception, throw}
-use Rattle.jm_world.specs.Here.{Here, with_frames, topped, moved_on, go_on_in, go_on, throws, with_room, push, push_new, with_operand, with_int, with_reference, with_arguments, with_object, with_depth, push_frame, is_ready, all_frames, when_initialized}
-use Rattle.jm_world.specs.ArraysOfArrays.{with_counts, with_lengths, first_made, push_all_new}
-use Rattle.jm_world.specs.Monitors.{monitor_in, recounted, with_monitor, entered, enter, enter_if, left_in, leave, leave_if}
-use Rattle.jm_world.specs.FramesOfRuns.{FramesStand, ThreadStands, Initialize, Initializes, ThreadsStand}
-use Rattle.jm_world.specs.declared.class_state.ClassState.TheVariants.{InProgress}
-use Rattle.jm_world.specs.declared.stage.Stage.TheVariants.{Begin}
-use Rattle.jm_world.proofs.Fitting.{grown}
-use Rattle.jm_world.proofs.KeepingForm.{with_monitors}
-
--- what comes of a step has frames that stand
-abbrev pub Framed : Next → Type 0
-Framed (goes w) = ThreadsStand w
-Framed (stops s) = Unit {0}
-Framed blocks = Unit {0}
-
-pub if_framed : (b : Bool) (x y : Next) → (b ≡ true → Framed x) → (b ≡ false → Framed y) → Framed (elim b [ true ↦ x | false ↦ y ])
-if_framed true x y f g = f refl
-if_framed false x y f g = g refl
-
-pub option_framed : {A : Type 0} (o : Option A) (x : Next) (go : A → Next) → Framed x → ((a : A) → Framed (go a)) → Framed (elim o [ None ↦ x | Some a ↦ go a ])
-option_framed None x go f g = f
-option_framed (Some a) x go f g = g a
-
--- a thread that was put into a list, and the others
-got_same : {A : Type 0} (xs : List A) (i : ℕ) (x y : A) → slice_get xs i ≡ Some y → slice_get (slice_set xs i x) i ≡ Some x
-got_same [] i x y e = cc
-got_same (z ∷ zs) zero x y e = refl
-got_same (z ∷ zs) (suc i) x y e = got_same zs i x y e
-
-got_other : {A : Type 0} (xs : List A) (i j : ℕ) (x : A) → (i ≡ j → ⊥) → slice_get (slice_set xs i x) j ≡ slice_get xs j
-got_other [] i j x n = refl
-got_other (z ∷ zs) zero zero x n = absurd (n refl)
-got_other (z ∷ zs) zero (suc j) x n = refl
-got_other (z ∷ zs) (suc i) zero x n = refl
-got_other (z ∷ zs) (suc i) (suc j) x n = got_other zs i j x (λ e. n (ap suc e))
+use Rattle.jm_world.specs.World.{World, Thread, Progress, with_thread, with_state, thread_at, state_of, state_in, set_state_in}
+use Rattle.jm_world.specs.Next.{Next, with_objects}
+use Rattle.jm_world.specs.BuiltInMethods.{new_thread, with_new_thread}
+use Rattle.jm_world.specs.Invocation.{activation_of, locals_of, unset}
+use Rattle.jm_world.specs.Loading.{main_in, first_thread, loaded_world}
+use Rattle.jm_world.specs.Run.{after, run_from}
+use Rattle.jm_world.specs.FramesOfRuns.{FramesStand, ThreadStands, HasBegun, Initialize, Initializes, ThreadsStand, EventsKeepFrames, RunsKeepFrames}
+use Rattle.jm_world.specs.declared.class_state.ClassState.{ClassState}
+use Rattle.jm_world.specs.declared.class_state.ClassState.TheVariants.{NotBegun, InProgress, Done, Failed}
+use Rattle.jm_world.specs.declared.stage.Stage.{Stage}
+use Rattle.jm_world.specs.declared.stage.Stage.TheVariants.{Begin, Superclass, Initializer, End}
+use Rattle.jm_world.specs.declared.event.Event.{Event}
+use Rattle.jm_world.proofs.Turning.{Goes, moved, acted, called, gave, left, needed, unneeded, begun, onward, upward, initialized, finished, entered, Drops, no_frame, a_method, an_initialization, a_refusal, an_entry, IsLast, none_left, last_method, at_entry, Turn, ends, goes_on, raises, catches, drops, dies}
+use Rattle.jm_world.proofs.WhatComes.{same, stored, sets, locks, states, begins, writes, Changes, Comes, stopped, blocked, went, makes, fails, starts}
+use Rattle.jm_world.proofs.RenumberedSteps.{get_other}
+use Rattle.jm_world.proofs.BesideItself.{Same, twin, twin_step}
+use Rattle.jm_world.proofs.KeptByEvents.{Behind, event_keeps}
 
 thread_put : (w : World) (number : ℕ) (t u : Thread) → thread_at w number ≡ Some t → thread_at (with_thread w number u) number ≡ Some u
 thread_put w zero t u e = cc
-thread_put w (suc n) t u e = let d : suc n - 1 ≡ n = omega arith in subst (λ k. slice_get (slice_set w.threads k u) n ≡ Some u) (sym d) (got_same w.threads n u t e)
+thread_put w (suc n) t u e = let d : suc n - 1 ≡ n = omega arith in subst (λ k. slice_get (slice_set w.threads k u) n ≡ Some u) (sym d) (set_there w.threads n t u e)
 
 thread_stays : (w : World) (number : ℕ) (t u : Thread) → thread_at w number ≡ Some t → (owner : ℕ) → (owner ≡ number → ⊥) → thread_at (with_thread w number u) owner ≡ thread_at w owner
 thread_stays w zero t u e owner n = cc
 thread_stays w (suc m) t u e zero n = refl
-thread_stays w (suc m) t u e (suc k) n = let d : suc m - 1 ≡ m = omega arith in subst (λ j. slice_get (slice_set w.threads j u) k ≡ slice_get w.threads k) (sym d) (got_other w.threads m k u (λ q. n (ap suc (sym q))))
+thread_stays w (suc m) t u e (suc k) n = let d : suc m - 1 ≡ m = omega arith in subst (λ j. slice_get (slice_set w.threads j u) k ≡ slice_get w.threads k) (sym d) (get_other w.threads m k u (λ q. n (ap suc (sym q))))
 
 same_threads : (w v : World) (number : ℕ) → v.threads ≡ w.threads → thread_at v number ≡ thread_at w number
 same_threads w v zero e = refl
 same_threads w v (suc n) e = ap (λ ts. slice_get ts n) e
 
 -- a thread of a world
-pub record StepsIn (w : World) (number : ℕ) (t : Thread) : Type 0 where
-  pub world : ThreadsStand w
-  pub thread : thread_at w number ≡ Some t
+record StepsIn (w : World) (number : ℕ) (t : Thread) : Type 0 where
+  world : ThreadsStand w
+  thread : thread_at w number ≡ Some t
 
-pub its_frames : (w : World) (number : ℕ) (t : Thread) → ThreadsStand w → thread_at w number ≡ Some t → ThreadStands t
+its_frames : (w : World) (number : ℕ) (t : Thread) → ThreadsStand w → thread_at w number ≡ Some t → ThreadStands t
 its_frames w zero t f e = cc
 its_frames w (suc n) t f e = each_at ThreadStands w.threads n t f.threads e
 
 -- a class in progress is initialized by the thread itself, or by another as before
-abbrev pub OwnedAfter : World → World → ℕ → Thread → Type 0
+abbrev OwnedAfter : World → World → ℕ → Thread → Type 0
 OwnedAfter w v number u = (class : List ℕ) (owner : ℕ) → state_of v class ≡ InProgress owner →
     (owner ≡ number → Initialize u.frames class) × ((owner ≡ number → ⊥) → Initializes (thread_at w owner) class)
 
-pub changed : (w v : World) (number : ℕ) (t u : Thread) → StepsIn w number t → v.threads ≡ w.threads → ThreadStands u → OwnedAfter w v number u → ThreadsStand (with_thread v number u)
+changed : (w v : World) (number : ℕ) (t u : Thread) → StepsIn w number t → v.threads ≡ w.threads → ThreadStands u → OwnedAfter w v number u → ThreadsStand (with_thread v number u)
 changed w v number t u h e s o = record {
   threads = each_set ThreadStands v.threads (number - 1) u (subst (AllByRecursion ThreadStands) (sym e) h.world.threads) s;
   owners = λ class owner p. by class owner p (eqb_tells owner number);
@@ -93,144 +72,284 @@ changed w v number t u h e s o = record {
     by class owner p (inl q) = subst (λ n. Initializes (thread_at (with_thread v number u) n) class) (sym q.1) (subst (λ x. Initializes x class) (sym (thread_put v number t u there)) ((o class owner p).0 q.1))
     by class owner p (inr q) = subst (λ x. Initializes x class) (sym (thread_stays v number t u there owner q.1 ∙ same_threads w v owner e)) ((o class owner p).1 q.1)
 
-pub owned_by : (w : World) (number : ℕ) (t : Thread) → StepsIn w number t → (class : List ℕ) (owner : ℕ) → owner ≡ number → Initializes (thread_at w owner) class → Initialize t.frames class
+owned_by : (w : World) (number : ℕ) (t : Thread) → StepsIn w number t → (class : List ℕ) (owner : ℕ) → owner ≡ number → Initializes (thread_at w owner) class → Initialize t.frames class
 owned_by w number t h class owner q i = subst (λ x. Initializes x class) h.thread (subst (λ n. Initializes (thread_at w n) class) q i)
 
 -- the thread initializes what it did, and no class has another state
-pub kept : (w v : World) (number : ℕ) (t u : Thread) → StepsIn w number t → v.threads ≡ w.threads → v.classes ≡ w.classes → ThreadStands u → ((class : List ℕ) → Initialize t.frames class → Initialize u.frames class) → ThreadsStand (with_thread v number u)
+kept : (w v : World) (number : ℕ) (t u : Thread) → StepsIn w number t → v.threads ≡ w.threads → v.classes ≡ w.classes → ThreadStands u → ((class : List ℕ) → Initialize t.frames class → Initialize u.frames class) → ThreadsStand (with_thread v number u)
 kept w v number t u h e c s f = changed w v number t u h e s (λ class owner p.
     let old : Initializes (thread_at w owner) class = h.world.owners class owner (subst (λ cs. state_in cs class ≡ InProgress owner) c p) in
     (λ q. f class (owned_by w number t h class owner q old), λ n. old))
 
-pub make_framed : (w : World) (o : Object) (go : World → ℕ → Next) → Framed (go (grown w o) (length w.heap)) → Framed (make w o go)
-make_framed w o go g = if_framed (nat_lt w.limit (reach_cells w + size o)) _ _ (λ e. tt) (λ e. if_framed (nat_le (2 ^ 63) (length w.heap)) _ _ (λ d. tt) (λ d. g))
-
-pub make_all_framed : (w : World) (os : List Object) (go : World → List ℕ → Next) → Framed (go (with_objects w os) (numbers_from (length w.heap) os)) → Framed (make_all w os go)
-make_all_framed w os go g = if_framed (nat_lt w.limit (reach_cells w + cells_of_all os)) _ _ (λ e. tt) (λ e. if_framed (nat_lt (2 ^ 63) (length w.heap + length os)) _ _ (λ d. tt) (λ d. g))
-
--- a throw leaves the frames that the thread is given
-pub throw_as : (w : World) (number : ℕ) (t u : Thread) (class : List ℕ) → StepsIn w number t → ThreadStands u → ((c : List ℕ) → Initialize t.frames c → Initialize u.frames c) → Framed (throw w number u class)
-throw_as w number t u class h s f = make_framed w (exception class) (λ made k. goes (with_thread made number (record u { pending = Some k })))
-    (kept w (grown w (exception class)) number t (record u { pending = Some (length w.heap) }) h refl refl s f)
-
-pub throw_framed : (w : World) (number : ℕ) (t : Thread) (class : List ℕ) → StepsIn w number t → Framed (throw w number t class)
-throw_framed w number t class h = throw_as w number t t class h (its_frames w number t h.world h.thread) (λ c i. i)
-
--- where an instruction is made
-pub record StepsHere (here : Here) : Type 0 where
-  pub steps : StepsIn here.world here.number here.thread
-  pub frame : IsWellFormed here.frame
-  pub below : FramesStand here.below
-  pub depth : length here.below < 512
-  pub kept : (class : List ℕ) → Initialize here.thread.frames class → Initialize here.below class
-
-pub topped_stands : (here : Here) (h : StepsHere here) (v : World) (a : Activation) → v.threads ≡ here.world.threads → v.classes ≡ here.world.classes → IsWellFormed a → ThreadsStand (topped here v a)
-topped_stands here h v a e c s = kept here.world v here.number here.thread (record here.thread { frames = method_frame here.method a here.monitor ∷ here.below }) h.steps e c ((s, h.below), h.depth) h.kept
-
-pub go_on_in_framed : (here : Here) (h : StepsHere here) (v : World) (s : List Value) → v.threads ≡ here.world.threads → v.classes ≡ here.world.classes → units s ≤ here.frame.max_stack → Framed (go_on_in here v s)
-go_on_in_framed here h v s e c l = topped_stands here h v (moved_on here.frame s) e c (record { room = l; longs = h.frame.longs })
-
-pub go_on_framed : (here : Here) (h : StepsHere here) (s : List Value) → units s ≤ here.frame.max_stack → Framed (go_on here s)
-go_on_framed here h s l = go_on_in_framed here h here.world s refl refl l
-
-pub throws_framed : (here : Here) (h : StepsHere here) (class : List ℕ) → Framed (throws here class)
-throws_framed here h class = throw_framed here.world here.number here.thread class h.steps
-
-pub with_room_framed : (here : Here) (s : List Value) (row : Next) → (units s ≤ here.frame.max_stack → Framed row) → Framed (with_room here s row)
-with_room_framed here s row f = if_framed (nat_le (units s) here.frame.max_stack) _ _ (λ e. f (leb-true (units s) here.frame.max_stack e)) (λ e. tt)
-
-pub push_framed : (here : Here) (h : StepsHere here) (v : Value) (s : List Value) → Framed (push here v s)
-push_framed here h v s = with_room_framed here (v ∷ s) _ (go_on_framed here h (v ∷ s))
-
-pub push_new_framed : (here : Here) (h : StepsHere here) (o : Object) (s : List Value) → Framed (push_new here o s)
-push_new_framed here h o s = with_room_framed here (Null ∷ s) _ (λ l. make_framed here.world o (λ made k. go_on_in here made (Ref k ∷ s)) (go_on_in_framed here h (grown here.world o) (Ref (length here.world.heap) ∷ s) refl refl l))
-
-first_takes_one : (numbers : List ℕ) (s : List Value) → units (first_made numbers ∷ s) ≡ units (Null ∷ s)
-first_takes_one [] s = refl
-first_takes_one (k ∷ ks) s = refl
-
-pub push_all_new_framed : (here : Here) (h : StepsHere here) (os : List Object) (s : List Value) → Framed (push_all_new here os s)
-push_all_new_framed here h os s = with_room_framed here (Null ∷ s) _ (λ l. make_all_framed here.world os (λ made numbers. go_on_in here made (first_made numbers ∷ s))
-    (go_on_in_framed here h (with_objects here.world os) (first_made numbers ∷ s) refl refl (omega (arith, l, first_takes_one numbers s))))
+-- the state of a class after another's, or its own, was set
+state_other : (ps : List Progress) (c : List ℕ) (s : ClassState) (class : List ℕ) → (c ≡ class → ⊥) → state_in (set_state_in ps c s) class ≡ state_in ps class
+state_other [] c s class n = refl
+state_other (p ∷ ps) c s class n = by (state_other ps c s class n) (same_text p.class c) refl
   where
-    numbers : List ℕ
-    numbers = numbers_from (length here.world.heap) os
+    own : (b : Bool) → same_text p.class class ≡ b → p.class ≡ c → (elim b as (λ _. ClassState) [ true ↦ s | false ↦ state_in ps class ]) ≡ (elim b as (λ _. ClassState) [ true ↦ p.state | false ↦ state_in ps class ])
+    own true e q = absurd (n (sym q ∙ (bytes_decides p.class class).0 e))
+    own false e q = refl
 
--- operands: each takes a unit at least
-taken : (m : ℕ) (v : Value) (s : List Value) → units (v ∷ s) ≤ m → units s + 1 ≤ m
-taken m (Int n) s l = omega (arith, l)
-taken m (Long n) s l = omega (arith, l)
-taken m Null s l = omega (arith, l)
-taken m (Ref k) s l = omega (arith, l)
+    other : state_in (set_state_in ps c s) class ≡ state_in ps class → (b : Bool) → (elim b as (λ _. ClassState) [ true ↦ p.state | false ↦ state_in (set_state_in ps c s) class ]) ≡ (elim b as (λ _. ClassState) [ true ↦ p.state | false ↦ state_in ps class ])
+    other ih true = refl
+    other ih false = ih
 
-pub with_operand_framed : (m : ℕ) (type : OperandType) (s : List Value) (go : Value → List Value → Next) → units s ≤ m → ((v : Value) (rest : List Value) → units rest + 1 ≤ m → Framed (go v rest)) → Framed (with_operand type s go)
-with_operand_framed m type [] go l f = tt
-with_operand_framed m type (v ∷ s) go l f = if_framed (is_of type v) _ _ (λ e. f v s (taken m v s l)) (λ e. tt)
+    by : state_in (set_state_in ps c s) class ≡ state_in ps class → (a : Bool) → same_text p.class c ≡ a → state_in (elim a as (λ _. List Progress) [ true ↦ record { class = p.class; state = s } ∷ ps | false ↦ p ∷ set_state_in ps c s ]) class ≡ state_in (p ∷ ps) class
+    by ih true e = own (same_text p.class class) refl ((bytes_decides p.class c).0 e)
+    by ih false e = other ih (same_text p.class class)
 
-pub with_int_framed : (m : ℕ) (s : List Value) (go : ℤ → List Value → Next) → units s ≤ m → ((i : ℤ) (rest : List Value) → units rest + 1 ≤ m → Framed (go i rest)) → Framed (with_int s go)
-with_int_framed m [] go l f = tt
-with_int_framed m (Int i ∷ s) go l f = f i s (taken m (Int i) s l)
-with_int_framed m (Long i ∷ s) go l f = tt
-with_int_framed m (Null ∷ s) go l f = tt
-with_int_framed m (Ref k ∷ s) go l f = tt
-
-pub with_counts_framed : (m d : ℕ) (counts : List ℤ) (s : List Value) (go : List ℤ → List Value → Next) → units s ≤ m → ((ns : List ℤ) (rest : List Value) → Framed (go ns rest)) → Framed (with_counts d counts s go)
-with_counts_framed m zero counts s go l f = f counts s
-with_counts_framed m (suc d) counts s go l f = with_int_framed m s (λ i below. with_counts d (i ∷ counts) below go) l (λ i below k. with_counts_framed m d (i ∷ counts) below go (omega (arith, k)) f)
-
-pub with_lengths_framed : (here : Here) (h : StepsHere here) (ns : List ℤ) (go : List ℕ → Next) → ((counts : List ℕ) → Framed (go counts)) → Framed (with_lengths here ns go)
-with_lengths_framed here h [] go f = f []
-with_lengths_framed here h (pos n ∷ ns) go f = with_lengths_framed here h ns (λ counts. go (n ∷ counts)) (λ counts. f (n ∷ counts))
-with_lengths_framed here h (negsuc n ∷ ns) go f = throws_framed here h (codes "java/lang/NegativeArraySizeException")
-
-pub with_reference_framed : (m : ℕ) (s : List Value) (go : Option ℕ → List Value → Next) → units s ≤ m → ((r : Option ℕ) (rest : List Value) → units rest + 1 ≤ m → Framed (go r rest)) → Framed (with_reference s go)
-with_reference_framed m [] go l f = tt
-with_reference_framed m (Int i ∷ s) go l f = tt
-with_reference_framed m (Long i ∷ s) go l f = tt
-with_reference_framed m (Null ∷ s) go l f = f None s (taken m Null s l)
-with_reference_framed m (Ref k ∷ s) go l f = f (Some k) s (taken m (Ref k) s l)
-
-pub with_arguments_framed : (m : ℕ) (ts : List FieldType) (popped s : List Value) (go : List Value → List Value → Next) → units s ≤ m → ((vs rest : List Value) → units rest ≤ m → Framed (go vs rest)) → Framed (with_arguments ts popped s go)
-with_arguments_framed m [] popped s go l f = f popped s l
-with_arguments_framed m (t ∷ ts) popped s go l f = with_operand_framed m (operand_of t) s _ l (λ v rest k. with_arguments_framed m ts (v ∷ popped) rest go (omega (arith, k)) f)
-
-pub with_object_framed : (here : Here) (h : StepsHere here) (r : Option ℕ) (go : ℕ → Object → Next) → ((k : ℕ) (o : Object) → Framed (go k o)) → Framed (with_object here r go)
-with_object_framed here h None go f = throws_framed here h (codes "java/lang/NullPointerException")
-with_object_framed here h (Some k) go f = option_framed (slice_get here.world.heap k) _ _ tt (f k)
-
--- frames
-pub with_depth_framed : (w : World) (number : ℕ) (t : Thread) (fs : List Frame) (row : Next) → StepsIn w number t → (length fs < 512 → Framed row) → Framed (with_depth w number t fs row)
-with_depth_framed w number t fs row h f = if_framed (nat_lt (length fs) 512) _ _ (λ e. f (ltb-true (length fs) 512 e)) (λ e. throw_framed w number t _ h)
-
-pub with_frames_stand : (w v : World) (number : ℕ) (t : Thread) (fs : List Frame) → StepsIn w number t → v.threads ≡ w.threads → v.classes ≡ w.classes → FramesStand fs → length fs ≤ 512 → ((class : List ℕ) → Initialize t.frames class → Initialize fs class) → ThreadsStand (with_frames v number t fs)
-with_frames_stand w v number t fs h e c s d f = kept w v number t (record t { frames = fs }) h e c (s, d) f
-
-pub push_frame_framed : (w : World) (number : ℕ) (t : Thread) (fs : List Frame) (f : Frame) → StepsIn w number t → FramesStand (f ∷ fs) → ((class : List ℕ) → Initialize t.frames class → Initialize (f ∷ fs) class) → Framed (push_frame w number t fs f)
-push_frame_framed w number t fs f h s g = with_depth_framed w number t fs _ h (λ d. with_frames_stand w w number t (f ∷ fs) h refl refl s d g)
-
-pub when_initialized_framed : (here : Here) (h : StepsHere here) (class : List ℕ) (row : Next) → Framed row → Framed (when_initialized here class row)
-when_initialized_framed here h class row f = if_framed (is_ready (state_of here.world class) here.number) _ _ (λ e. f)
-    (λ e. push_frame_framed here.world here.number here.thread (all_frames here) (initialization_frame class Begin) h.steps (h.frame, h.below) (λ c i. inr (h.kept c i)))
-
--- monitors are no part of it
-pub enter_framed : (w : World) (number k : ℕ) (go : World → Next) → ((ms : List Monitor) → Framed (go (with_monitors w ms))) → Framed (enter w number k go)
-enter_framed w number k go g = by (monitor_in w.monitors k)
+state_own : (ps : List Progress) (c : List ℕ) (s : ClassState) (owner : ℕ) → state_in (set_state_in ps c s) c ≡ InProgress owner → s ≡ InProgress owner
+state_own [] c s owner e = cc
+state_own (p ∷ ps) c s owner e = by (state_own ps c s owner) (same_text p.class c) refl e
   where
-    by : (o : Option Monitor) → Framed (entered w number k o go)
-    by None = g (with_monitor w.monitors (record { object = k; owner = number; count = 1 }))
-    by (Some m) = if_framed (nat_eq m.owner number) _ _ (λ t. if_framed (nat_lt (m.count + 1) (2 ^ 31)) _ _ (λ c. g (recounted w.monitors k (m.count + 1))) (λ c. tt)) (λ t. tt)
+    again : (b : Bool) → b ≡ true → (elim b as (λ _. ClassState) [ true ↦ s | false ↦ state_in ps c ]) ≡ InProgress owner → s ≡ InProgress owner
+    again true d h = h
+    again false d h = cc
 
-pub enter_if_framed : (w : World) (number : ℕ) (o : Option ℕ) (go : World → Next) → ((ms : List Monitor) → Framed (go (with_monitors w ms))) → Framed (enter_if w number o go)
-enter_if_framed w number None go g = g w.monitors
-enter_if_framed w number (Some k) go g = enter_framed w number k go g
+    other : (state_in (set_state_in ps c s) c ≡ InProgress owner → s ≡ InProgress owner) → (b : Bool) → b ≡ false → (elim b as (λ _. ClassState) [ true ↦ p.state | false ↦ state_in (set_state_in ps c s) c ]) ≡ InProgress owner → s ≡ InProgress owner
+    other ih true d h = cc
+    other ih false d h = ih h
 
-pub leave_framed : (w : World) (number k : ℕ) (x : Next) (go : World → Next) → Framed x → ((ms : List Monitor) → Framed (go (with_monitors w ms))) → Framed (elim (leave w number k) [ None ↦ x | Some left ↦ go left ])
-leave_framed w number k x go f g = by (left_in w.monitors number k (monitor_in w.monitors k))
+    by : (state_in (set_state_in ps c s) c ≡ InProgress owner → s ≡ InProgress owner) → (a : Bool) → same_text p.class c ≡ a → state_in (elim a as (λ _. List Progress) [ true ↦ record { class = p.class; state = s } ∷ ps | false ↦ p ∷ set_state_in ps c s ]) c ≡ InProgress owner → s ≡ InProgress owner
+    by ih true d h = again (same_text p.class c) d h
+    by ih false d h = other ih (same_text p.class c) d h
+
+-- the thread takes a class to another state, and keeps all others that it initializes
+restated : (w v : World) (number : ℕ) (t u : Thread) (c : List ℕ) (s : ClassState) → StepsIn w number t → v.threads ≡ w.threads → v.classes ≡ set_state_in w.classes c s → ThreadStands u
+    → ((owner : ℕ) → s ≡ InProgress owner → (owner ≡ number) × Initialize u.frames c) → ((class : List ℕ) → (c ≡ class → ⊥) → Initialize t.frames class → Initialize u.frames class) → ThreadsStand (with_thread v number u)
+restated w v number t u c s h e d stands g f = changed w v number t u h e stands (λ class owner p. by class owner (subst (λ cs. state_in cs class ≡ InProgress owner) d p) (same_text c class) refl)
   where
-    by : (o : Option (List Monitor)) → Framed (elim (elim o as (λ _. Option World) [ None ↦ None | Some monitors ↦ Some (record w { monitors = monitors }) ]) [ None ↦ x | Some left ↦ go left ])
-    by None = f
-    by (Some ms) = g ms
+    by : (class : List ℕ) (owner : ℕ) → state_in (set_state_in w.classes c s) class ≡ InProgress owner → (b : Bool) → same_text c class ≡ b → (owner ≡ number → Initialize u.frames class) × ((owner ≡ number → ⊥) → Initializes (thread_at w owner) class)
+    by class owner p true q =
+        let same : c ≡ class = (bytes_decides c class).0 q in
+        let own : s ≡ InProgress owner = state_own w.classes c s owner (subst (λ x. state_in (set_state_in w.classes c s) x ≡ InProgress owner) (sym same) p) in
+        (λ i. subst (λ x. Initialize u.frames x) same (g owner own).1, λ n. absurd (n (g owner own).0))
+    by class owner p false q =
+        let apart : c ≡ class → ⊥ = λ x. (let z : true ≡ false = sym ((bytes_decides c class).1 x) ∙ q in cc) in
+        let old : Initializes (thread_at w owner) class = h.world.owners class owner (sym (state_other w.classes c s class apart) ∙ p) in
+        (λ i. f class apart (owned_by w number t h class owner i old), λ n. old)
 
-pub leave_if_framed : (w : World) (number : ℕ) (o : Option ℕ) (x : Next) (go : World → Next) → Framed x → ((ms : List Monitor) → Framed (go (with_monitors w ms))) → Framed (elim (leave_if w number o) [ None ↦ x | Some left ↦ go left ])
-leave_if_framed w number None x go f g = g w.monitors
-leave_if_framed w number (Some k) x go f g = leave_framed w number k x go f g
+got_append : {A : Type 0} (P : Option A → Type 0) (xs ys : List A) (i : ℕ) → (P None → ⊥) → P (slice_get xs i) → P (slice_get (xs ++ ys) i)
+got_append P [] ys i n p = absurd (n p)
+got_append P (x ∷ xs) ys zero n p = p
+got_append P (x ∷ xs) ys (suc i) n p = got_append P xs ys i n p
+
+started : (w : World) (k : ℕ) → ThreadsStand w → ThreadsStand (with_new_thread w (new_thread k))
+started w k f = record {
+  threads = each_of_both ThreadStands w.threads (new_thread k ∷ []) f.threads ((refl, omega arith), tt);
+  owners = λ class owner p. by class owner (f.owners class owner p);
+}
+  where
+    by : (class : List ℕ) (owner : ℕ) → Initializes (thread_at w owner) class → Initializes (thread_at (with_new_thread w (new_thread k)) owner) class
+    by class zero i = i
+    by class (suc n) i = got_append (λ o. Initializes o class) w.threads (new_thread k ∷ []) n (λ b. b) i
+
+-- a call's local variables: an argument that is a long has its second one unset
+unset_whole : (count : ℕ) → LongsAreWhole (unset count)
+unset_whole zero n k e = cc
+unset_whole (suc count) zero k e = cc
+unset_whole (suc count) (suc n) k e = unset_whole count n k e
+
+arguments_whole : (vs : List Value) (rest : List (Option Value)) → LongsAreWhole rest → LongsAreWhole (locals_of vs ++ rest)
+arguments_whole [] rest r n k e = r n k e
+arguments_whole (Int i ∷ vs) rest r zero k e = cc
+arguments_whole (Int i ∷ vs) rest r (suc n) k e = arguments_whole vs rest r n k e
+arguments_whole (Null ∷ vs) rest r zero k e = cc
+arguments_whole (Null ∷ vs) rest r (suc n) k e = arguments_whole vs rest r n k e
+arguments_whole (Ref i ∷ vs) rest r zero k e = cc
+arguments_whole (Ref i ∷ vs) rest r (suc n) k e = arguments_whole vs rest r n k e
+arguments_whole (Long i ∷ vs) rest r zero k e = refl
+arguments_whole (Long i ∷ vs) rest r (suc zero) k e = cc
+arguments_whole (Long i ∷ vs) rest r (suc (suc n)) k e = arguments_whole vs rest r n k e
+
+call_whole : (code : Code) (vs : List Value) → IsWellFormed (activation_of code vs)
+call_whole code vs = record { room = omega arith; longs = arguments_whole vs (unset (code.max_locals - length (locals_of vs))) (unset_whole (code.max_locals - length (locals_of vs))) }
+
+-- frames that stand, and so many
+abbrev Stand : List Frame → Type 0
+Stand fs = FramesStand fs × (length fs ≤ 512)
+
+goes_stand : (program : List ClassParts) (n : ℕ) (fs gs : List Frame) (c : Option (List ℕ × ClassState)) → Goes program n fs c gs → Stand fs → Stand gs
+goes_stand program n _ _ _ (moved s b) f = ((record { room = b f.0.0.room; longs = f.0.0.longs }, f.0.1), f.1)
+goes_stand program n _ _ _ (acted {a = a} op d e) f = (((subst (KeepsForm a) e (plain_keeps op a f.0.0)).1, f.0.1), f.1)
+goes_stand program n _ _ _ (called s vs found code lock b d x y) f = ((call_whole code vs, (record { room = b f.0.0.room; longs = f.0.0.longs }, f.0.1)), d)
+goes_stand program n _ _ _ (gave s b) f = ((record { room = b; longs = f.0.1.0.longs }, f.0.1.1), omega (arith, f.1))
+goes_stand program n _ _ _ left f = (f.0.1, omega (arith, f.1))
+goes_stand program n _ _ _ (needed class b) f = (f.0, b)
+goes_stand program n _ _ _ unneeded f = (f.0, omega (arith, f.1))
+goes_stand program n _ _ _ begun f = f
+goes_stand program n _ _ _ onward f = f
+goes_stand program n _ _ _ (upward above b) f = (f.0, b)
+goes_stand program n _ _ _ (initialized found code b x y) f = ((call_whole code [], f.0), b)
+goes_stand program n _ _ _ finished f = (f.0, omega (arith, f.1))
+goes_stand program n _ _ _ (entered found code k lock x y) f = ((call_whole code (Ref k ∷ []), subst FramesStand (sym f.0) tt), f.1)
+
+drops_stand : (fs gs : List Frame) (c : Option (List ℕ × ClassState)) → Drops fs c gs → Stand fs → Stand gs
+drops_stand _ _ _ no_frame f = f
+drops_stand _ _ _ a_method f = (f.0.1, omega (arith, f.1))
+drops_stand _ _ _ an_initialization f = (f.0, omega (arith, f.1))
+drops_stand _ _ _ a_refusal f = (f.0, omega (arith, f.1))
+drops_stand _ _ _ an_entry f = (subst FramesStand (sym f.0) tt, omega (arith, f.1))
+
+turn_stands : (w : World) (n : ℕ) (t s : Thread) (c : Option (List ℕ × ClassState)) → Turn w n t c s → ThreadStands t → ThreadStands s
+turn_stands w n t _ _ (ends fs d x) f = (tt, omega arith)
+turn_stands w n t _ _ (goes_on fs d x) f = goes_stand w.program n fs _ _ x (subst Stand d f)
+turn_stands w n t _ _ (raises k) f = f
+turn_stands w n t _ _ (catches {m = m} {a = a} {o = o} {fs = fs} type h k d x b) f = let g : Stand (method_frame m a o ∷ fs) = subst Stand d f in ((record { room = b; longs = g.0.0.longs }, g.0.1), g.1)
+turn_stands w n t _ _ (drops fs k d x) f = drops_stand fs _ _ x (subst Stand d f)
+turn_stands w n t _ _ (dies fs class d x) f = (tt, omega arith)
+
+-- a class other than the one that comes to another state
+abbrev IsOther : Option (List ℕ × ClassState) → List ℕ → Type 0
+IsOther None class = Unit {0}
+IsOther (Some c) class = c.0 ≡ class → ⊥
+
+-- the frame of an initialization that is dropped is of that class alone
+not_begun : (class of : List ℕ) (stage : Stage) → HasBegun class of stage → of ≡ class
+not_begun class of Begin b = absurd b
+not_begun class of Superclass b = b
+not_begun class of Initializer b = b
+not_begun class of End b = b
+
+goes_initialize : (program : List ClassParts) (n : ℕ) (fs gs : List Frame) (c : Option (List ℕ × ClassState)) → Goes program n fs c gs → (class : List ℕ) → IsOther c class → Initialize fs class → Initialize gs class
+goes_initialize program n _ _ _ (moved s b) class q i = i
+goes_initialize program n _ _ _ (acted op d e) class q i = i
+goes_initialize program n _ _ _ (called s vs found code lock b d x y) class q i = i
+goes_initialize program n _ _ _ (gave s b) class q i = i
+goes_initialize program n _ _ _ left class q i = i
+goes_initialize program n _ _ _ (needed of b) class q i = inr i
+goes_initialize program n _ _ _ unneeded class q (inl b) = absurd b
+goes_initialize program n _ _ _ unneeded class q (inr i) = i
+goes_initialize program n _ _ _ begun class q (inl b) = absurd b
+goes_initialize program n _ _ _ begun class q (inr i) = inr i
+goes_initialize program n _ _ _ onward class q i = i
+goes_initialize program n _ _ _ (upward above b) class q i = inr i
+goes_initialize program n _ _ _ (initialized found code b x y) class q i = i
+goes_initialize program n _ _ _ (finished {class = of} {stage = stage}) class q (inl b) = absurd (q (not_begun class of stage b))
+goes_initialize program n _ _ _ finished class q (inr i) = i
+goes_initialize program n _ _ _ (entered found code k lock x y) class q i = i
+
+drops_initialize : (fs gs : List Frame) (c : Option (List ℕ × ClassState)) → Drops fs c gs → (class : List ℕ) → IsOther c class → Initialize fs class → Initialize gs class
+drops_initialize _ _ _ no_frame class q i = i
+drops_initialize _ _ _ a_method class q i = i
+drops_initialize _ _ _ (an_initialization {class = of} {stage = stage}) class q (inl b) = absurd (q (not_begun class of stage b))
+drops_initialize _ _ _ an_initialization class q (inr i) = i
+drops_initialize _ _ _ a_refusal class q (inl b) = absurd b
+drops_initialize _ _ _ a_refusal class q (inr i) = i
+drops_initialize _ _ _ an_entry class q i = i
+
+last_initializes : (fs : List Frame) → IsLast fs → FramesStand fs → (class : List ℕ) → Initialize fs class → ⊥
+last_initializes _ none_left f class i = i
+last_initializes _ last_method f class i = i
+last_initializes _ at_entry f class i = subst (λ fs. Initialize fs class) f i
+
+turn_initializes : (w : World) (n : ℕ) (t s : Thread) (c : Option (List ℕ × ClassState)) → Turn w n t c s → ThreadStands t → (class : List ℕ) → IsOther c class → Initialize t.frames class → Initialize s.frames class
+turn_initializes w n t _ _ (ends fs d x) f class q i = last_initializes fs x (subst FramesStand d f.0) class (subst (λ fs. Initialize fs class) d i)
+turn_initializes w n t _ _ (goes_on fs d x) f class q i = goes_initialize w.program n fs _ _ x class q (subst (λ fs. Initialize fs class) d i)
+turn_initializes w n t _ _ (raises k) f class q i = i
+turn_initializes w n t _ _ (catches type h k d x b) f class q i = subst (λ fs. Initialize fs class) d i
+turn_initializes w n t _ _ (drops fs k d x) f class q i = drops_initialize fs _ _ x class q (subst (λ fs. Initialize fs class) d i)
+turn_initializes w n t _ _ (dies fs of d x) f class q i = drops_initialize fs _ _ x class q (subst (λ fs. Initialize fs class) d i)
+
+abbrev its_class : Option (List ℕ × ClassState) → List ℕ
+its_class None = []
+its_class (Some c) = c.0
+
+abbrev its_state : Option (List ℕ × ClassState) → ClassState
+its_state None = Done
+its_state (Some c) = c.1
+
+drops_own : (fs gs : List Frame) (c : Option (List ℕ × ClassState)) → Drops fs c gs → (class : List ℕ) (owner : ℕ) → c ≡ Some (class, InProgress owner) → ⊥
+drops_own _ _ _ no_frame class owner e = cc
+drops_own _ _ _ a_method class owner e = cc
+drops_own _ _ _ an_initialization class owner e = let g : Failed ≡ InProgress owner = ap its_state e in cc
+drops_own _ _ _ a_refusal class owner e = cc
+drops_own _ _ _ an_entry class owner e = cc
+
+-- a class that comes to be in progress is the thread's, and one of its frames is of it
+turn_owns : (w : World) (n : ℕ) (t s : Thread) (c : Option (List ℕ × ClassState)) → Turn w n t c s → (class : List ℕ) (owner : ℕ) → c ≡ Some (class, InProgress owner) → (owner ≡ n) × Initialize s.frames class
+turn_owns w n t _ _ (ends fs d x) class owner e = cc
+turn_owns w n t _ _ (goes_on fs {gs = gs} {c = c} d x) class owner e = by fs gs c x e
+  where
+    by : (fs gs : List Frame) (c : Option (List ℕ × ClassState)) → Goes w.program n fs c gs → c ≡ Some (class, InProgress owner) → (owner ≡ n) × Initialize gs class
+    by _ _ _ (moved s b) e = cc
+    by _ _ _ (acted op d e) g = cc
+    by _ _ _ (called s vs found code lock b d x y) e = cc
+    by _ _ _ (gave s b) e = cc
+    by _ _ _ left e = cc
+    by _ _ _ (needed of b) e = cc
+    by _ _ _ unneeded e = cc
+    by _ _ _ begun e = let same : InProgress n ≡ InProgress owner = ap its_state e in (let d : owner ≡ n = cc in d, inl (ap its_class e))
+    by _ _ _ onward e = cc
+    by _ _ _ (upward above b) e = cc
+    by _ _ _ (initialized found code b x y) e = cc
+    by _ _ _ finished e = let g : Done ≡ InProgress owner = ap its_state e in cc
+    by _ _ _ (entered found code k lock x y) e = cc
+turn_owns w n t _ _ (raises k) class owner e = cc
+turn_owns w n t _ _ (catches type h k d x b) class owner e = cc
+turn_owns w n t _ _ (drops fs k d x) class owner e = absurd (drops_own fs _ _ x class owner e)
+turn_owns w n t _ _ (dies fs of d x) class owner e = absurd (drops_own fs _ _ x class owner e)
+
+-- the classes of a world behind a step
+abbrev restates : List Progress → Option (List ℕ × ClassState) → List Progress
+restates ps None = ps
+restates ps (Some c) = set_state_in ps c.0 c.1
+
+changes_restate : (w : World) (n : ℕ) (c : Option (List ℕ × ClassState)) (v u : World) → Changes Same (twin w) n c v u → (v.threads ≡ w.threads) × (v.classes ≡ restates w.classes c)
+changes_restate w n _ _ _ same = (refl, refl)
+changes_restate w n _ _ _ (stored i r e d x a) = (refl, refl)
+changes_restate w n _ _ _ (sets x a) = (refl, refl)
+changes_restate w n _ _ _ (locks x) = (refl, refl)
+changes_restate w n _ _ _ (states class state) = (refl, refl)
+changes_restate w n _ _ _ (begins class) = (refl, refl)
+changes_restate w n _ _ _ (writes bytes) = (refl, refl)
+
+turned_stand : (w v : World) (n : ℕ) (t s : Thread) → StepsIn w n t → v.threads ≡ w.threads → (c : Option (List ℕ × ClassState)) → v.classes ≡ restates w.classes c → Turn w n t c s → ThreadsStand (with_thread v n s)
+turned_stand w v n t s h e c d x = by c d x
+  where
+    own : ThreadStands t
+    own = its_frames w n t h.world h.thread
+
+    by : (c : Option (List ℕ × ClassState)) → v.classes ≡ restates w.classes c → Turn w n t c s → ThreadsStand (with_thread v n s)
+    by None d x = kept w v n t s h e d (turn_stands w n t s None x own) (λ class i. turn_initializes w n t s None x own class tt i)
+    by (Some c) d x = restated w v n t s c.0 c.1 h e d (turn_stands w n t s (Some c) x own)
+        (λ owner p. turn_owns w n t s (Some c) x c.0 owner (ap (λ state. Some (c.0, state)) p)) (λ class apart i. turn_initializes w n t s (Some c) x own class apart i)
+
+comes_stand : (w : World) (n : ℕ) (t : Thread) → StepsIn w n t → (x y : Next) → Comes Same (twin w) n t t x y → Behind ThreadsStand x
+comes_stand w n t h _ _ stopped = tt
+comes_stand w n t h _ _ (blocked x) = tt
+comes_stand w n t h _ _ (went {w = v} {v = u} {s = s} d c x) = let f = changes_restate w n d v u c in turned_stand w v n t s h f.0 d f.1 x.turn
+comes_stand w n t h _ _ (makes os {s = s} a x) = turned_stand w (with_objects w os) n t s h refl None refl x.turn
+comes_stand w n t h _ _ (fails class os {s = s} a x) = turned_stand w (with_objects (with_state w class Failed) os) n t s h refl (Some (class, Failed)) refl x.turn
+comes_stand w n t h _ _ (starts {k = k} {s = s} r x) = started (with_thread w n s) k (turned_stand w w n t s h refl None refl x.turn)
+
+pub events_keep_frames : EventsKeepFrames
+events_keep_frames w e f = event_keeps ThreadsStand w f (λ s. record { threads = f.threads; owners = f.owners }) (λ n t d r. comes_stand w n t (record { world = f; thread = d }) _ _ (twin_step w n t)) e
+
+-- a load: no class is in progress
+none_begun : (cs : List ClassParts) (class : List ℕ) (owner : ℕ) → state_in (map (λ c. record { class = c.name; state = NotBegun }) cs) class ≡ InProgress owner → ⊥
+none_begun [] class owner e = cc
+none_begun (c ∷ cs) class owner e = by (none_begun cs class owner) (same_text c.name class) e
+  where
+    by : (state_in (map (λ x. record { class = x.name; state = NotBegun }) cs) class ≡ InProgress owner → ⊥) → (b : Bool) → (elim b as (λ _. ClassState) [ true ↦ NotBegun | false ↦ state_in (map (λ x. record { class = x.name; state = NotBegun }) cs) class ]) ≡ InProgress owner → ⊥
+    by ih true h = cc
+    by ih false h = ih h
+
+first_stands : (found : Option FoundMethod) → ThreadStands (first_thread found)
+first_stands None = (tt, omega arith)
+first_stands (Some m) = by m.method.code
+  where
+    by : (code : Option Code) → let fs : List Frame = elim code as (λ _. List Frame) [ None ↦ [] | Some c ↦ initialization_frame m.class.name Begin ∷ method_frame (name_of_method m) (activation_of c (Ref 1 ∷ [])) None ∷ [] ] in FramesStand fs × (length fs ≤ 512)
+    by None = (tt, omega arith)
+    by (Some c) = ((call_whole c (Ref 1 ∷ []), tt), omega arith)
+
+load_stands : (program : List ClassParts) (limit : ℕ) → ThreadsStand (loaded_world program limit)
+unfolding loaded_world
+load_stands program limit = record { threads = (first_stands (main_in program), tt); owners = λ class owner e. absurd (none_begun program class owner e) }
+
+run_stands : (w : World) (es : List Event) → ThreadsStand w → ThreadsStand (run_from w es)
+run_stands w [] f = f
+run_stands w (e ∷ es) f = run_stands (after w e).world es (events_keep_frames w e f)
+
+pub runs_keep_frames : RunsKeepFrames
+runs_keep_frames program limit events = run_stands (loaded_world program limit) events (load_stands program limit)

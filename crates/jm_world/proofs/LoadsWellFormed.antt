@@ -5,13 +5,12 @@ use Rattle.std.specs.List.{AllByRecursion, filter, flat_map}
 use Rattle.jm_program.specs.Flags.{is_static}
 use Rattle.jm_program.specs.declared.class.ClassParts.{ClassParts}
 use Rattle.jm_program.specs.declared.code.Code.{Code}
-use Rattle.jm_program.specs.declared.instruction.operation.OperandType.TheVariants as operand
 use Rattle.jm_values.specs.Shape.{Among}
 use Rattle.jm_values.specs.Rename.{refs_activation}
 use Rattle.jm_values.specs.declared.value.Value.TheVariants.{Int, Ref}
 use Rattle.jm_values.specs.Objects.{refs_of}
-use Rattle.jm_world.specs.Types.{operand_of, default_value}
-use Rattle.jm_world.specs.Classes.{FoundMethod}
+use Rattle.jm_world.specs.Types.{default_value}
+use Rattle.jm_world.specs.Classes.{FoundMethod, name_of_method}
 use Rattle.jm_world.specs.Objects.{Object, FieldName, field_names}
 use Rattle.jm_world.specs.Frames.{Frame, method_frame, initialization_frame, entry_frame, frames_shape, optional_number_shape, refs_frame}
 use Rattle.jm_world.specs.World.{World, Thread, Static, Monitor, Literal, Ending, running, returned, ended_by, roots, refs_thread, refs_static, refs_monitor, refs_literal, object_refs, held_shape}
@@ -24,9 +23,11 @@ use Rattle.jm_world.proofs.Fitting.{among_value, among_values, among_activation}
 use Rattle.jm_values.proofs.Reaching.{reach_within}
 use Rattle.jm_values.proofs.Lists.{each_at, each_of_both}
 use Rattle.jm_values.proofs.Among.{among_split}
-use Rattle.jm_world.proofs.InvocationKeepsForm.{locals_below}
-use Rattle.jm_world.proofs.StepsKeepForm.{events_keep_form}
-use Rattle.jm_world.proofs.FieldsKeepForm.{default_below}
+use Rattle.jm_world.specs.SideBySide.{Lists, none, more, Frames, methods, neither}
+use Rattle.jm_world.specs.SideBySide as beside
+use Rattle.jm_world.proofs.WordsSideBySide.{defaults}
+use Rattle.jm_world.proofs.RowsSideBySide.{called_alike}
+use Rattle.jm_world.proofs.KeepingForm.{Own, value_from, frame_from, events_keep_form}
 
 -- the first objects
 ints_below : (n : ℕ) (units : List ℕ) → ValuesBelow n (map (λ u. Int (pos u)) units)
@@ -47,7 +48,7 @@ literals_below n k (t ∷ ts) l = (omega (arith, l), literals_below n (k + 2) ts
 
 defaults_below : (n : ℕ) (fs : List FieldName) → AllByRecursion {X = Static} (λ s. ValueBelow n s.value) (map (λ f. record { field = f; value = default_value f.type }) fs)
 defaults_below n [] = tt
-defaults_below n (f ∷ fs) = (default_below n (operand_of f.type), defaults_below n fs)
+defaults_below n (f ∷ fs) = (value_from (Own n) n (λ k j r. r.1) _ _ (defaults f.type), defaults_below n fs)
 
 statics_below : (n : ℕ) (cs : List ClassParts) → AllByRecursion (λ s. ValueBelow n s.value) (flat_map statics_of_class cs)
 statics_below n [] = tt
@@ -59,7 +60,7 @@ frames_below n found l = by found.method.code
   where
     by : (o : Option Code) → FramesBelow n (first_frames (record { class = found.class; method = record found.method { code = o } }))
     by None = tt
-    by (Some code) = (tt, ((locals_below n code.max_locals (Ref 1 ∷ []) (omega (arith, l), tt), tt, tt), tt))
+    by (Some code) = (tt, (frame_from (Own n) n (λ k j r. r.1) _ _ (methods {m = name_of_method found} (called_alike code (Ref 1 ∷ []) (Ref 1 ∷ []) (more (beside.refs (refl, omega (arith, l))) none)) neither), tt))
 
 thread_fits : (n : ℕ) (found : Option FoundMethod) → 2 ≤ n → ThreadFits n (first_thread found)
 thread_fits n None l = record { object = tt; pending = tt; frames = tt; ended = λ e. cc }

@@ -31,3 +31,4 @@ pub mod Roots
 pub mod FullHeap
 pub mod ChosenEvents
 pub mod LoadRules
+pub mod UpToNumbers

@@ -35,3 +35,8 @@ pub mod Renaming
 pub mod Matches
 pub mod Matched
 pub mod Written
+pub mod SideBySide
+pub mod TwoWorlds
+pub mod Renumbered
+pub mod UpToNumbers
+pub mod TwoThreads

@@ -15,6 +15,8 @@ ghost use Rattle.jm_world.specs.Making.{OneIsAList, ObjectsAreNumbered};
 ghost use Rattle.jm_world.specs.Matched.{WorldsAreMatched};
 ghost use Rattle.jm_world.specs.Matches.{Parts, Matches, ReachesAlike};
 ghost use Rattle.jm_world.specs.Reaching.{ReachIsLeast};
+ghost use Rattle.jm_world.specs.TwoThreads.{PlainStepsCommute, StepsAreApart};
+ghost use Rattle.jm_world.specs.UpToNumbers.{EventsAgree, OnesTellTheSame, RunsAgree, WorldsAreThemselves};
 ghost use Rattle.jm_world.specs.WellFormed.{EventsKeepForm, RunsAreWellFormed};
 
 /// The computed list of reachable objects is the least set that has the roots and is closed under
@@ -74,6 +76,39 @@ pub fn events_keep_code()
 /// And so it is in every world that a load and a list of events make.
 pub fn runs_have_code()
     ensures { RunsHaveCode }
+{}
+
+/// Each well-formed world is one with itself, so what the next laws ask for can be met.
+pub fn worlds_are_themselves()
+    ensures { WorldsAreThemselves }
+{}
+
+/// Worlds that are one but for the numbers of their objects and for the objects that neither
+/// reaches answer an event alike, and are so again behind it.
+pub fn events_agree()
+    ensures { EventsAgree }
+{}
+
+/// And so they do all events of a list.
+pub fn runs_agree()
+    ensures { RunsAgree }
+{}
+
+/// What was written, the stop, and the numbers of threads are the same in such worlds.
+pub fn worlds_up_to_numbers_tell_the_same()
+    ensures { OnesTellTheSame }
+{}
+
+/// A step of a thread neither reads nor changes another thread, but for its object and for the
+/// cells of what it reaches.
+pub fn steps_are_apart()
+    ensures { StepsAreApart }
+{}
+
+/// A plain instruction that goes on, and that leaves as many cells reachable, commutes with each
+/// step of another thread that goes on.
+pub fn plain_steps_commute()
+    ensures { PlainStepsCommute }
 {}
 
 /// Frames, threads, statics, monitors and literals have shapes: renaming, listing and refilling

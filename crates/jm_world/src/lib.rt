@@ -19,10 +19,11 @@ mod stop;
 pub use class_state::ClassState;
 pub use event::Event;
 pub use laws::{
-    a_machine_reaches_what_its_world_does, events_keep_code, events_keep_form, events_keep_frames,
-    events_keep_names, objects_are_made_together, parts_have_shapes, reach_is_the_least_set,
-    runs_are_well_formed, runs_have_code, runs_have_what_is_named, runs_keep_frames,
-    worlds_are_matched,
+    a_machine_reaches_what_its_world_does, events_agree, events_keep_code, events_keep_form,
+    events_keep_frames, events_keep_names, objects_are_made_together, parts_have_shapes,
+    plain_steps_commute, reach_is_the_least_set, runs_agree, runs_are_well_formed, runs_have_code,
+    runs_have_what_is_named, runs_keep_frames, steps_are_apart, worlds_are_matched,
+    worlds_are_themselves, worlds_up_to_numbers_tell_the_same,
 };
 pub use reply::{Reply, ReplyKind};
 pub use stage::Stage;

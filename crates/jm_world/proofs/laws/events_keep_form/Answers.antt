@@ -1,4 +1,4 @@
-use Rattle.jm_world.proofs.StepsKeepForm.{events_keep_form}
+use Rattle.jm_world.proofs.KeepingForm.{events_keep_form}
 use Rattle.jm_world.proofs.laws.events_keep_form.Goals as goal
 
 pub returns : goal.returns
