@@ -19,7 +19,7 @@ use Rattle.jm_world.specs.Loads.{duplicate_class, when, is_named_among, duplicat
 use Rattle.jm_world.proofs.FoundAgain.{class_name_is, not_built_in as none_built_in}
 use Rattle.jm_world.proofs.Refusing.{both_none, not_refused}
 use Rattle.jm_world.proofs.CalledMethods.{built_in_passes}
-use Rattle.jm_run_laws.proofs.Law.{is_bare}
+use Rattle.jm_world.proofs.Leaving.{is_bare}
 
 abbrev IsNew : ClassParts → Type 0
 IsNew c = is_some (built_in_named the_builtins c.name) ≡ false

@@ -1,7 +1,6 @@
 -- A law of frames and objects: what it says of each, and what keeps it so.
-use Rattle.std.specs.Prelude.{◌≡◌, ℕ, ◌≤◌, List, [], ◌∷◌, Some, None, Bool, true, false, not, ◌&&◌, length, slice_get, slice_set, ◌++◌, Option, zero, suc}
+use Rattle.std.specs.Prelude.{◌≡◌, ℕ, ◌≤◌, List, [], ◌∷◌, Some, None, true, length, slice_get, slice_set, ◌++◌, Option}
 use Rattle.std.specs.List.{AllByRecursion}
-use Rattle.jm_program.specs.Names.{same_text}
 use Rattle.jm_program.specs.declared.class.ClassParts.{ClassParts}
 use Rattle.jm_program.specs.declared.code.Code.{Code}
 use Rattle.jm_program.specs.declared.code.Handler.{Handler}
@@ -9,13 +8,12 @@ use Rattle.jm_program.specs.declared.descriptor.FieldType.{FieldType}
 use Rattle.jm_program.specs.declared.instruction.plain.Plain.{Plain}
 use Rattle.jm_program.specs.declared.instruction.symbolic.Instr.{Instr}
 use Rattle.jm_program.specs.declared.instruction.symbolic.Instr.TheVariants as instr
-use Rattle.jm_builtins.specs.List.{the_builtins}
 use Rattle.jm_values.specs.Activation.{Activation}
 use Rattle.jm_values.specs.Outcome as outcome
 use Rattle.jm_values.specs.PlainRows.{row_plain}
 use Rattle.jm_values.specs.declared.value.Value.{Value}
 use Rattle.jm_world.specs.Types.{array_of}
-use Rattle.jm_world.specs.Classes.{MethodName, built_in_named, class_named, method_named, string_class, throwable_class}
+use Rattle.jm_world.specs.Classes.{MethodName, class_named, method_named, throwable_class}
 use Rattle.jm_world.specs.Objects.{Object, new_instance}
 use Rattle.jm_world.specs.Frames.{Frame, method_frame, initialization_frame, entry_frame}
 use Rattle.jm_world.specs.World.{World, Thread}
@@ -25,6 +23,7 @@ use Rattle.jm_world.specs.Invocation.{locals_of, activation_of}
 use Rattle.jm_world.specs.Throwing.{is_kind_of, handlers_of}
 use Rattle.jm_world.specs.Stepping.{instruction_in}
 use Rattle.jm_world.specs.Loads.{new_refusal}
+use Rattle.jm_world.proofs.Leaving.{is_bare, is_thrown}
 use Rattle.jm_run_laws.specs.LocalsOfRuns.{code_of}
 
 -- of the method frame on top of a thread, of a method frame that stands at an instruction, as each
@@ -34,22 +33,6 @@ pub record Law : Type 1 where
   pub Below : MethodName → Activation → Type 0
   pub Holds : Object → Type 0
   pub Pends : List Object → ℕ → Type 0
-
--- a built-in class without instance fields, as each is but String
-abbrev pub is_bare : List ℕ → Bool
-is_bare name = elim (built_in_named the_builtins name) [ None ↦ false | Some c ↦ not (same_text name string_class) ]
-
--- a built-in class that is Throwable or so many steps below it at most
-abbrev pub is_thrown_in : ℕ → List ℕ → Bool
-is_thrown_in zero name = false
-is_thrown_in (suc n) name = elim (same_text name throwable_class) [
-  | true ↦ true
-  | false ↦ elim (built_in_named the_builtins name) [ None ↦ false | Some c ↦ elim c.superclass [ None ↦ false | Some s ↦ is_thrown_in n s ] ]
-]
-
--- as each class is whose exception a step makes
-abbrev pub is_thrown : List ℕ → Bool
-is_thrown name = is_bare name && is_thrown_in 6 name
 
 -- what keeps it in a program
 pub record IsKept (program : List ClassParts) (L : Law) : Type 0 where

@@ -1,9 +1,7 @@
 pub mod PlainStays
 pub mod LoadedCode
-pub mod Arguments
 pub mod CalledCode
 pub mod Law
-pub mod RowsKept
 pub mod EventsKept
 pub mod LocalsKept
 pub mod CodeKept

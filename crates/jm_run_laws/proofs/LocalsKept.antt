@@ -24,7 +24,7 @@ use Rattle.jm_world.proofs.KeepingNames.{events_keep_names, run_keeps as run_kee
 use Rattle.jm_run_laws.specs.LocalsOfRuns.{code_of, HasLocals, FramesHaveLocals, ThreadsHaveLocals, EventsKeepLocals, RunsHaveLocals}
 use Rattle.jm_run_laws.proofs.PlainStays.{Stays, plain_stays}
 use Rattle.jm_run_laws.proofs.LoadedCode.{StandsAt, stands_at}
-use Rattle.jm_run_laws.proofs.Arguments.{padded_to}
+use Rattle.jm_world.proofs.Arguments.{padded_to}
 use Rattle.jm_run_laws.proofs.Law.{Law, IsKept, EachBelow, Frames, Pending, Keeps}
 use Rattle.jm_run_laws.proofs.EventsKept.{event_keeps, run_keeps}
 

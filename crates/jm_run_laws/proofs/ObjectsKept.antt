@@ -23,7 +23,8 @@ use Rattle.jm_world.proofs.NamesAreThere.{it_is as there, new_found as new_there
 use Rattle.jm_world.proofs.FoundAgain.{place_within}
 use Rattle.jm_run_laws.specs.ObjectsOfRuns.{HasValues, HasFields, ObjectsHaveFields, EventsKeepFields, RunsHaveFields, FieldsHavePlaces, RunsHavePlaces}
 use Rattle.jm_run_laws.proofs.BuiltInFields.{built_in_there, bare_there, bare_fields, string_fields}
-use Rattle.jm_run_laws.proofs.Law.{Law, is_bare, IsKept, EachBelow, Frames, Pending, Its, Keeps}
+use Rattle.jm_world.proofs.Leaving.{is_bare}
+use Rattle.jm_run_laws.proofs.Law.{Law, IsKept, EachBelow, Frames, Pending, Its, Keeps}
 use Rattle.jm_run_laws.proofs.EventsKept.{event_keeps, run_keeps}
 
 abbrev fields_law : List ClassParts → Law

@@ -20,7 +20,8 @@ use Rattle.jm_world.proofs.Fitting.{each_more}
 use Rattle.jm_world.proofs.KeepingNames.{events_keep_names}
 use Rattle.jm_run_laws.specs.ExceptionsOfRuns.{is_throwable, IsThrowable, PendingIsThrowable, ThreadsThrow, EventsThrowThrowables, RunsThrowThrowables}
 use Rattle.jm_run_laws.proofs.BuiltInFields.{built_in_there}
-use Rattle.jm_run_laws.proofs.Law.{Law, is_bare, is_thrown_in, is_thrown, IsKept, EachBelow, Frames, Pending, Keeps}
+use Rattle.jm_world.proofs.Leaving.{is_bare, is_thrown_in, is_thrown}
+use Rattle.jm_run_laws.proofs.Law.{Law, IsKept, EachBelow, Frames, Pending, Keeps}
 use Rattle.jm_run_laws.proofs.EventsKept.{event_keeps, run_keeps}
 use Rattle.jm_run_laws.proofs.LocalsKept.{nothing_of}
 use Rattle.jm_run_laws.proofs.ObjectsKept.{same_program}

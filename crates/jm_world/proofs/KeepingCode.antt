@@ -30,23 +30,23 @@ found_runs program found code x e = by x (subst IsThere (sym e) tt)
     by : Found program found → IsThere found.method.code → HasBody (method_named program (name_of_method found))
     by (by_class class name t d) = subst (CallRuns program) d (selected program class name t)
     by (by_name class name t d) = subst (CallRuns program) d (resolved program class name t)
-    by (by_invokespecial here class m q d) = subst (λ p. CallRuns p (Some found)) q (subst (CallRuns here.world.program) d (specially here class m))
+    by (by_invokespecial here class m q d i c) = subst (λ p. CallRuns p (Some found)) q (subst (CallRuns here.world.program) d (specially here class m))
     by (of_class class d) = subst (CallRuns program) d (initially program class)
 
 goes_run : (program : List ClassParts) (n : ℕ) (fs gs : List Frame) (c : Option (List ℕ × ClassState)) → Goes program n fs c gs → FramesHaveCode program fs → FramesHaveCode program gs
-goes_run program n _ _ _ (moved s b) f = f
+goes_run program n _ _ _ (moved s b i) f = f
 goes_run program n _ _ _ (acted op d e) f = f
-goes_run program n _ _ _ (called s vs found code lock b d x y) f = (found_runs program found code x y, f)
+goes_run program n _ _ _ (called s vs found code lock b d x y l i) f = (found_runs program found code x y, f)
 goes_run program n _ _ _ (gave s b) f = f.1
 goes_run program n _ _ _ left f = f.1
-goes_run program n _ _ _ (needed class b) f = f
+goes_run program n _ _ _ (needed class b i) f = f
 goes_run program n _ _ _ unneeded f = f
 goes_run program n _ _ _ begun f = f
 goes_run program n _ _ _ onward f = f
 goes_run program n _ _ _ (upward above b) f = f
 goes_run program n _ _ _ (initialized found code b x y) f = (found_runs program found code x y, f)
 goes_run program n _ _ _ finished f = f
-goes_run program n _ _ _ (entered found code k lock x y) f = (found_runs program found code x y, f)
+goes_run program n _ _ _ (entered found code k lock x y l) f = (found_runs program found code x y, f)
 
 drops_run : (program : List ClassParts) (fs gs : List Frame) (c : Option (List ℕ × ClassState)) → Drops fs c gs → FramesHaveCode program fs → FramesHaveCode program gs
 drops_run program _ _ _ no_frame f = f
@@ -84,10 +84,10 @@ module _ (w : World) (number : ℕ) (t : Thread) (h : ThreadsHaveCode w) (own : 
   comes_run : (x y : Next) → Comes Same (twin w) number t t x y → Behind ThreadsHaveCode x
   comes_run _ _ stopped = tt
   comes_run _ _ (blocked x) = tt
-  comes_run _ _ (went {w = v} {v = u} {s = s} d c x) = changed d v u s c (put s d x.turn)
-  comes_run _ _ (makes os {s = s} a x) = put s None x.turn
-  comes_run _ _ (fails class os {s = s} a x) = put s _ x.turn
-  comes_run _ _ (starts {k = k} {s = s} r x) = each_of_both (λ t. FramesHaveCode w.program t.frames) (slice_set w.threads (number - 1) s) (new_thread k ∷ []) (put s None x.turn) (tt, tt)
+  comes_run _ _ (went {w = v} {v = u} {s = s} d c x y) = changed d v u s c (put s d x.turn)
+  comes_run _ _ (makes os {s = s} a x y) = put s None x.turn
+  comes_run _ _ (fails class os {s = s} a x y) = put s _ x.turn
+  comes_run _ _ (starts {k = k} {s = s} r x y) = each_of_both (λ t. FramesHaveCode w.program t.frames) (slice_set w.threads (number - 1) s) (new_thread k ∷ []) (put s None x.turn) (tt, tt)
 
 pub events_keep_code : EventsKeepCode
 events_keep_code w e h = event_keeps ThreadsHaveCode w h (λ s. h) (λ n t d r. comes_run w n t h (its_code w n t h d) _ _ (twin_step w n t)) e

@@ -276,11 +276,11 @@ module _ (w : World) (number : ℕ) (t : Thread) (h : Stands w number t) where
   comes_fine : (x y : Next) → Comes (Own (length w.heap)) (twin w) number t t x y → Behind IsWellFormed x
   comes_fine _ _ stopped = tt
   comes_fine _ _ (blocked x) = tt
-  comes_fine _ _ (went {w = v} {v = u} {s = s} {r = r} d c x) = let f = changes_fit d v u c in
+  comes_fine _ _ (went {w = v} {v = u} {s = s} {r = r} d c x y) = let f = changes_fit d v u c in
       with_thread_fits v number s f.0 (subst (λ m. ThreadFits m s) (sym f.1) (thread_from (Own (length w.heap)) (length w.heap) own_below (twin w) number d t s r h.thread.object h.running x))
-  comes_fine _ _ (makes os {s = s} {r = r} a x) = makes_fit w os None s r h.world refl a x
-  comes_fine _ _ (fails class os {s = s} {r = r} a x) = makes_fit (with_state w class Failed) os (Some (class, Failed)) s r (state_fits w class Failed h.world) refl a x
-  comes_fine _ _ (starts {k = k} {s = s} {r = r} q x) = started_fits (with_thread w number s) k (with_thread_fits w number s h.world (thread_from (Own (length w.heap)) (length w.heap) own_below (twin w) number None t s r h.thread.object h.running x)) q.1
+  comes_fine _ _ (makes os {s = s} {r = r} a x y) = makes_fit w os None s r h.world refl a x
+  comes_fine _ _ (fails class os {s = s} {r = r} a x y) = makes_fit (with_state w class Failed) os (Some (class, Failed)) s r (state_fits w class Failed h.world) refl a x
+  comes_fine _ _ (starts {k = k} {s = s} {r = r} q x y) = started_fits (with_thread w number s) k (with_thread_fits w number s h.world (thread_from (Own (length w.heap)) (length w.heap) own_below (twin w) number None t s r h.thread.object h.running x)) q.1
 
   step_fine : Behind IsWellFormed (step_thread w number t)
   step_fine = comes_fine _ _ (step_both (Own (length w.heap)) (record { worlds = twin w; number = number; thread = t; thread' = t; alike = alike_own w h.world; running = running_own (length w.heap) t h.thread }))

@@ -170,19 +170,19 @@ abbrev Stand : List Frame → Type 0
 Stand fs = FramesStand fs × (length fs ≤ 512)
 
 goes_stand : (program : List ClassParts) (n : ℕ) (fs gs : List Frame) (c : Option (List ℕ × ClassState)) → Goes program n fs c gs → Stand fs → Stand gs
-goes_stand program n _ _ _ (moved s b) f = ((record { room = b f.0.0.room; longs = f.0.0.longs }, f.0.1), f.1)
+goes_stand program n _ _ _ (moved s b z) f = ((record { room = b f.0.0.room; longs = f.0.0.longs }, f.0.1), f.1)
 goes_stand program n _ _ _ (acted {a = a} op d e) f = (((subst (KeepsForm a) e (plain_keeps op a f.0.0)).1, f.0.1), f.1)
-goes_stand program n _ _ _ (called s vs found code lock b d x y) f = ((call_whole code vs, (record { room = b f.0.0.room; longs = f.0.0.longs }, f.0.1)), d)
+goes_stand program n _ _ _ (called s vs found code lock b d x y l z) f = ((call_whole code vs, (record { room = b f.0.0.room; longs = f.0.0.longs }, f.0.1)), d)
 goes_stand program n _ _ _ (gave s b) f = ((record { room = b; longs = f.0.1.0.longs }, f.0.1.1), omega (arith, f.1))
 goes_stand program n _ _ _ left f = (f.0.1, omega (arith, f.1))
-goes_stand program n _ _ _ (needed class b) f = (f.0, b)
+goes_stand program n _ _ _ (needed class b z) f = (f.0, b)
 goes_stand program n _ _ _ unneeded f = (f.0, omega (arith, f.1))
 goes_stand program n _ _ _ begun f = f
 goes_stand program n _ _ _ onward f = f
 goes_stand program n _ _ _ (upward above b) f = (f.0, b)
 goes_stand program n _ _ _ (initialized found code b x y) f = ((call_whole code [], f.0), b)
 goes_stand program n _ _ _ finished f = (f.0, omega (arith, f.1))
-goes_stand program n _ _ _ (entered found code k lock x y) f = ((call_whole code (Ref k ∷ []), subst FramesStand (sym f.0) tt), f.1)
+goes_stand program n _ _ _ (entered found code k lock x y l) f = ((call_whole code (Ref k ∷ []), subst FramesStand (sym f.0) tt), f.1)
 
 drops_stand : (fs gs : List Frame) (c : Option (List ℕ × ClassState)) → Drops fs c gs → Stand fs → Stand gs
 drops_stand _ _ _ no_frame f = f
@@ -212,12 +212,12 @@ not_begun class of Initializer b = b
 not_begun class of End b = b
 
 goes_initialize : (program : List ClassParts) (n : ℕ) (fs gs : List Frame) (c : Option (List ℕ × ClassState)) → Goes program n fs c gs → (class : List ℕ) → IsOther c class → Initialize fs class → Initialize gs class
-goes_initialize program n _ _ _ (moved s b) class q i = i
+goes_initialize program n _ _ _ (moved s b z) class q i = i
 goes_initialize program n _ _ _ (acted op d e) class q i = i
-goes_initialize program n _ _ _ (called s vs found code lock b d x y) class q i = i
+goes_initialize program n _ _ _ (called s vs found code lock b d x y l z) class q i = i
 goes_initialize program n _ _ _ (gave s b) class q i = i
 goes_initialize program n _ _ _ left class q i = i
-goes_initialize program n _ _ _ (needed of b) class q i = inr i
+goes_initialize program n _ _ _ (needed of b z) class q i = inr i
 goes_initialize program n _ _ _ unneeded class q (inl b) = absurd b
 goes_initialize program n _ _ _ unneeded class q (inr i) = i
 goes_initialize program n _ _ _ begun class q (inl b) = absurd b
@@ -227,7 +227,7 @@ goes_initialize program n _ _ _ (upward above b) class q i = inr i
 goes_initialize program n _ _ _ (initialized found code b x y) class q i = i
 goes_initialize program n _ _ _ (finished {class = of} {stage = stage}) class q (inl b) = absurd (q (not_begun class of stage b))
 goes_initialize program n _ _ _ finished class q (inr i) = i
-goes_initialize program n _ _ _ (entered found code k lock x y) class q i = i
+goes_initialize program n _ _ _ (entered found code k lock x y l) class q i = i
 
 drops_initialize : (fs gs : List Frame) (c : Option (List ℕ × ClassState)) → Drops fs c gs → (class : List ℕ) → IsOther c class → Initialize fs class → Initialize gs class
 drops_initialize _ _ _ no_frame class q i = i
@@ -272,19 +272,19 @@ turn_owns w n t _ _ (ends fs d x) class owner e = cc
 turn_owns w n t _ _ (goes_on fs {gs = gs} {c = c} d x) class owner e = by fs gs c x e
   where
     by : (fs gs : List Frame) (c : Option (List ℕ × ClassState)) → Goes w.program n fs c gs → c ≡ Some (class, InProgress owner) → (owner ≡ n) × Initialize gs class
-    by _ _ _ (moved s b) e = cc
+    by _ _ _ (moved s b z) e = cc
     by _ _ _ (acted op d e) g = cc
-    by _ _ _ (called s vs found code lock b d x y) e = cc
+    by _ _ _ (called s vs found code lock b d x y l z) e = cc
     by _ _ _ (gave s b) e = cc
     by _ _ _ left e = cc
-    by _ _ _ (needed of b) e = cc
+    by _ _ _ (needed of b z) e = cc
     by _ _ _ unneeded e = cc
     by _ _ _ begun e = let same : InProgress n ≡ InProgress owner = ap its_state e in (let d : owner ≡ n = cc in d, inl (ap its_class e))
     by _ _ _ onward e = cc
     by _ _ _ (upward above b) e = cc
     by _ _ _ (initialized found code b x y) e = cc
     by _ _ _ finished e = let g : Done ≡ InProgress owner = ap its_state e in cc
-    by _ _ _ (entered found code k lock x y) e = cc
+    by _ _ _ (entered found code k lock x y l) e = cc
 turn_owns w n t _ _ (raises k) class owner e = cc
 turn_owns w n t _ _ (catches type h k d x b) class owner e = cc
 turn_owns w n t _ _ (drops fs k d x) class owner e = absurd (drops_own fs _ _ x class owner e)
@@ -318,10 +318,10 @@ turned_stand w v n t s h e c d x = by c d x
 comes_stand : (w : World) (n : ℕ) (t : Thread) → StepsIn w n t → (x y : Next) → Comes Same (twin w) n t t x y → Behind ThreadsStand x
 comes_stand w n t h _ _ stopped = tt
 comes_stand w n t h _ _ (blocked x) = tt
-comes_stand w n t h _ _ (went {w = v} {v = u} {s = s} d c x) = let f = changes_restate w n d v u c in turned_stand w v n t s h f.0 d f.1 x.turn
-comes_stand w n t h _ _ (makes os {s = s} a x) = turned_stand w (with_objects w os) n t s h refl None refl x.turn
-comes_stand w n t h _ _ (fails class os {s = s} a x) = turned_stand w (with_objects (with_state w class Failed) os) n t s h refl (Some (class, Failed)) refl x.turn
-comes_stand w n t h _ _ (starts {k = k} {s = s} r x) = started (with_thread w n s) k (turned_stand w w n t s h refl None refl x.turn)
+comes_stand w n t h _ _ (went {w = v} {v = u} {s = s} d c x y) = let f = changes_restate w n d v u c in turned_stand w v n t s h f.0 d f.1 x.turn
+comes_stand w n t h _ _ (makes os {s = s} a x y) = turned_stand w (with_objects w os) n t s h refl None refl x.turn
+comes_stand w n t h _ _ (fails class os {s = s} a x y) = turned_stand w (with_objects (with_state w class Failed) os) n t s h refl (Some (class, Failed)) refl x.turn
+comes_stand w n t h _ _ (starts {k = k} {s = s} r x y) = started (with_thread w n s) k (turned_stand w w n t s h refl None refl x.turn)
 
 pub events_keep_frames : EventsKeepFrames
 events_keep_frames w e f = event_keeps ThreadsStand w f (λ s. record { threads = f.threads; owners = f.owners }) (λ n t d r. comes_stand w n t (record { world = f; thread = d }) _ _ (twin_step w n t)) e

@@ -56,10 +56,10 @@ changes_keep w n _ _ _ (writes bytes) = (refl, refl, refl)
 come_keeps : (w : World) (n : ℕ) (t : Thread) (x y : Next) → Comes Same (twin w) n t t x y → Behind (SameNames w) x
 come_keeps w n t _ _ stopped = tt
 come_keeps w n t _ _ (blocked x) = tt
-come_keeps w n t _ _ (went {w = v} {v = u} d c x) = changes_keep w n d v u c
-come_keeps w n t _ _ (makes os a x) = (refl, refl, refl)
-come_keeps w n t _ _ (fails class os a x) = (refl, refl, refl)
-come_keeps w n t _ _ (starts r x) = (refl, refl, refl)
+come_keeps w n t _ _ (went {w = v} {v = u} d c x y) = changes_keep w n d v u c
+come_keeps w n t _ _ (makes os a x y) = (refl, refl, refl)
+come_keeps w n t _ _ (fails class os a x y) = (refl, refl, refl)
+come_keeps w n t _ _ (starts r x y) = (refl, refl, refl)
 
 pub step_keeps : (w : World) (n : ℕ) (t : Thread) → Behind (SameNames w) (step_thread w n t)
 step_keeps w n t = come_keeps w n t _ _ (twin_step w n t)

@@ -4,8 +4,11 @@ pub mod ShapesOfParts
 pub mod PlacesOfParts
 pub mod Fitting
 pub mod KeptByEvents
+pub mod Leaving
 pub mod Turning
 pub mod WhatComes
+pub mod LocalsOfCalls
+pub mod Arguments
 pub mod WordsSideBySide
 pub mod RowsSideBySide
 pub mod StepsSideBySide
@@ -23,7 +26,6 @@ pub mod KeepingFrames
 pub mod CalledMethods
 pub mod NamesAreThere
 pub mod FoundAgain
-pub mod LocalsOfCalls
 pub mod KeepingCode
 pub mod LoadsWellFormed
 pub mod Reaching

@@ -308,9 +308,9 @@ module _ (R : ℕ → ℕ → Type 0) where
 pub comes_follow : (R : ℕ → ℕ → Type 0) (p : Two) (n : ℕ) (t u : Thread) → Renumbered R p → Options R t.object u.object → (x y : Next) → Comes R p n t u x y → Follow R x y
 comes_follow R p n t u m o _ _ stopped = stop_both
 comes_follow R p n t u m o _ _ (blocked x) = block_both
-comes_follow R p n t u m o _ _ (went {w = w} {v = v} {s = s} {r = r} d c x) = go_both (put R p d w v n t u s r (changed R p n m d w v c) o x)
-comes_follow R p n t u m o _ _ (makes os {s = s} {r = r} a x) = go_more p (length os) (put (Grown R p (length os)) p None (with_objects (left p) os) (with_objects (right p) os) n t u s r (grown_are R p os m a) (option_to (λ k j q. inl q) o) x)
-comes_follow R p n t u m o _ _ (fails class os {s = s} {r = r} a x) = go_more p (length os)
+comes_follow R p n t u m o _ _ (went {w = w} {v = v} {s = s} {r = r} d c x y) = go_both (put R p d w v n t u s r (changed R p n m d w v c) o x)
+comes_follow R p n t u m o _ _ (makes os {s = s} {r = r} a x y) = go_more p (length os) (put (Grown R p (length os)) p None (with_objects (left p) os) (with_objects (right p) os) n t u s r (grown_are R p os m a) (option_to (λ k j q. inl q) o) x)
+comes_follow R p n t u m o _ _ (fails class os {s = s} {r = r} a x y) = go_more p (length os)
     (put (Grown R p (length os)) p (Some (class, Failed)) (with_objects (with_state (left p) class Failed) os) (with_objects (with_state (right p) class Failed) os) n t u s r
     (grown_are R (record p { classes = set_state_in p.classes class Failed }) os (record { made = m.made; names = m.names; objects = m.objects; literals = m.literals; statics = m.statics; monitors = m.monitors; threads = m.threads }) a) (option_to (λ k j q. inl q) o) x)
-comes_follow R p n t u m o _ _ (starts {k = k} {j = j} {s = s} {r = r} q x) = go_both (started R (with_thread (left p) n s) (with_thread (right p) n r) k j (put R p None (left p) (right p) n t u s r (are m) o x) q)
+comes_follow R p n t u m o _ _ (starts {k = k} {j = j} {s = s} {r = r} q x y) = go_both (started R (with_thread (left p) n s) (with_thread (right p) n r) k j (put R p None (left p) (right p) n t u s r (are m) o x) q)

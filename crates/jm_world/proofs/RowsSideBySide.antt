@@ -1,15 +1,17 @@
 -- The rows of the instruction table, in two worlds beside one another.
-use Rattle.std.proofs.Common.{◌≡◌, ℕ, zero, suc, ◌+◌, List, [], ◌∷◌, ◌++◌, Option, Some, None, Bool, true, false, refl, subst, length, ap, arith, ℤ, pos, negsuc}
+use Rattle.std.proofs.Common.{◌≡◌, ℕ, zero, suc, ◌+◌, ◌≤◌, List, [], ◌∷◌, ◌++◌, Option, Some, None, Bool, true, false, refl, subst, length, ap, arith, ℤ, pos, negsuc}
 use Rattle.std.specs.Int.{w32, cast_unsigned}
 use Rattle.std.specs.Prelude.{◌-◌, ◌%◌, ◌^◌, slice_get, reverse, nat_lt, nat_le, codes}
-use Rattle.std.specs.List.{AllByRecursion}
+use Rattle.std.specs.List.{AllByRecursion, sum_by}
 use Rattle.jm_program.specs.Names.{same_text}
+use Rattle.jm_program.specs.Descriptors.{slots, argument_slots}
 use Rattle.jm_program.specs.Flags.{is_abstract, is_synchronized}
 use Rattle.jm_program.specs.declared.class.Method.{Method}
 use Rattle.jm_program.specs.declared.code.Code.{Code}
 use Rattle.jm_program.specs.declared.constant.Constant.{Constant}
 use Rattle.jm_program.specs.declared.constant.Constant.TheVariants as constant
 use Rattle.jm_program.specs.declared.descriptor.FieldType.{FieldType}
+use Rattle.jm_program.specs.declared.descriptor.MethodDescriptor.{MethodDescriptor}
 use Rattle.jm_program.specs.declared.reference.ClassRef.{ClassRef}
 use Rattle.jm_program.specs.declared.reference.ClassRef.TheVariants as named
 use Rattle.jm_program.specs.declared.reference.FieldRef.{FieldRef}
@@ -33,10 +35,11 @@ use Rattle.jm_program.specs.declared.instruction.operation.TypeOp.{TypeOp}
 use Rattle.jm_program.specs.declared.instruction.operation.TypeOp.TheVariants.{NewArray, NewArrays, CheckCast, InstanceOf}
 use Rattle.jm_values.specs.Activation.{units}
 use Rattle.jm_values.specs.Outcome.{Outcome}
-use Rattle.jm_values.specs.ArraysOfArrays.{Dimension, tree}
+use Rattle.jm_values.specs.ArraysOfArrays.{Dimension, tree, tree_arrays, each_from}
 use Rattle.jm_values.specs.declared.value.Value.{Value}
 use Rattle.jm_values.specs.declared.value.Value.TheVariants.{Int, Long, Ref}
 use Rattle.jm_values.specs.declared.fault.TagFault.TheVariants.{WrongKind}
+use Rattle.jm_values.proofs.Lists.{each_of_both}
 use Rattle.jm_values.proofs.ArraysOfArrays.{tree_many, tree_values}
 use Rattle.jm_world.specs.Types.{ObjectType, instance_of, array_of, operand_of, default_value, narrow, type_of_ref, type_of_object, primitive_type}
 use Rattle.jm_world.specs.Classes.{FoundMethod, MethodName, name_of_method, method_named, string_class, print_stream_class, thread_class, throwable_class}
@@ -65,13 +68,15 @@ use Rattle.jm_world.proofs.WhatComes.{Outcomes}
 use Rattle.jm_world.proofs.WhatComes as alike
 use Rattle.jm_world.specs.TwoWorlds.{Two, left, right}
 use Rattle.jm_world.proofs.WhatComes.{IsNew, AreNew, Place, Stands, Locks, same, stored, sets, locks, writes, stopped, went, starts, Setting, here, here'}
-use Rattle.jm_world.proofs.Turning.{Found, by_class, by_name, by_invokespecial, moved, acted, called, gave, IsLast, last_method, ends, goes_on, raises}
+use Rattle.jm_world.proofs.Turning.{Found, slots_of, FoundFor, IsAt, by_class, by_name, by_invokespecial, moved, acted, called, gave, IsLast, last_method, ends, goes_on, raises}
 use Rattle.jm_world.proofs.Turning as turning
+use Rattle.jm_world.proofs.Arguments.{slots_reversed}
+use Rattle.jm_world.proofs.Leaving.{by_plain, IsArray, as_before, cleared, threw, arrays, instance}
 use Rattle.jm_program.specs.declared.instruction.plain.Plain.{Plain}
 use Rattle.jm_values.specs.Activation.{Activation}
 use Rattle.jm_values.specs.PlainRows.{row_plain}
 use Rattle.std.proofs.lemmas.Bool.{leb-true}
-use Rattle.jm_world.proofs.WordsSideBySide.{Rest, Popped, less, all_of, lists_long, got, joined, units_same, narrowed, defaults, array_is_new, instance_is_new, Both, if_both, if_same, same_told, option_both, some_both, framed, frames_both, throws_both, top, go_on_both, push_both, push_new_both, push_all_new_both, operand_both, int_both, reference_both, arguments_both, object_both, depth_both, initialized_both, enter_both, enter_if_both, leave_both, leave_if_both}
+use Rattle.jm_world.proofs.WordsSideBySide.{Rest, Popped, less, all_of, lists_long, got, joined, units_same, narrowed, defaults, array_is_new, instance_is_new, Both, if_both, if_told, if_same, same_told, option_both, some_both, framed, frames_both, throw_both, throws_both, top, go_on_both, push_both, push_new_both, push_all_new_both, operand_both, int_both, reference_both, arguments_both, object_both, depth_both, initialized_both, enter_both, enter_if_both, leave_both, leave_if_both}
 
 -- arguments
 argument_alike : {R : ℕ → ℕ → Type 0} (v u : Value) → Values R v u → Lists (Options (Values R)) (argument_locals v) (argument_locals u)
@@ -124,6 +129,18 @@ trees_new p t ns = tree_values (λ v. Values (IsNew p n) v v) ds (length p.one.h
 
     n : ℕ
     n = length (tree ds (length p.one.heap))
+
+each_from_arrays : (n : ℕ) (made : ℕ → List Object) → ((k : ℕ) → AllByRecursion IsArray (made k)) → (first apart : ℕ) → AllByRecursion IsArray (each_from n made first apart)
+each_from_arrays zero made f first apart = tt
+each_from_arrays (suc n) made f first apart = each_of_both IsArray (made first) (each_from n made (first + apart) apart) (f first) (each_from_arrays n made f (first + apart) apart)
+
+trees_are_arrays : (t : FieldType) (ns : List ℕ) (k : ℕ) → AllByRecursion IsArray (tree (dimensions_of t ns) k)
+trees_are_arrays t [] k = tt
+trees_are_arrays t (n ∷ []) k = ((element_type t, refl), tt)
+trees_are_arrays t (n ∷ m ∷ ns) k = ((element_type t, refl), each_from_arrays n (tree (dimensions_of (element_type t) (m ∷ ns))) (trees_are_arrays (element_type t) (m ∷ ns)) (k + 1) (tree_arrays (dimensions_of (element_type t) (m ∷ ns))))
+
+from_none : (d : MethodDescriptor) → length (locals_of []) + sum_by slots (reverse d.parameters) ≤ argument_slots d
+from_none d = omega (arith, slots_reversed d)
 
 -- what follows a word in a row
 abbrev put_at : FieldName → Here → Value → List Value → Next
@@ -289,8 +306,8 @@ module _ (R : ℕ → ℕ → Type 0) (e : Setting R) where
 
   -- arrays
   index_both : (q : Place) (n : ℤ) (o b : Object) → Objects R o b → (go go' : ℕ → Next) → ((i : ℕ) → Both R e (go i) (go' i)) → Both R e (with_index (here e q) n o go) (with_index (here' e q) n b go')
-  index_both q (pos i) _ _ (objects l) go go' g = if_same R e _ _ (ap (λ n. nat_lt i n) (lists_long l)) _ _ _ _ (g i) (throws_both R e q (codes "java/lang/ArrayIndexOutOfBoundsException"))
-  index_both q (negsuc i) o b x go go' g = throws_both R e q (codes "java/lang/ArrayIndexOutOfBoundsException")
+  index_both q (pos i) _ _ (objects l) go go' g = if_same R e _ _ (ap (λ n. nat_lt i n) (lists_long l)) _ _ _ _ (g i) (throws_both R e q (codes "java/lang/ArrayIndexOutOfBoundsException") refl)
+  index_both q (negsuc i) o b x go go' g = throws_both R e q (codes "java/lang/ArrayIndexOutOfBoundsException") refl
 
   serves_both : (k : ArrayKind) (o b : Object) → Objects R o b → (x x' : Next) → Both R e x x' → Both R e (when_serves k o x) (when_serves k b x')
   serves_both k _ _ (objects {type = type} l) x x' f = if_both R e (serves k type) _ _ _ _ f stopped
@@ -314,7 +331,7 @@ module _ (R : ℕ → ℕ → Type 0) (e : Setting R) where
   store_in_both : (q : Place) → Stands R e q → (k j : ℕ) (o b : Object) (v u : Value) (i : ℕ) (s s' : List Value) → R k j → slice_get (left e.worlds).heap k ≡ Some o → slice_get (right e.worlds).heap j ≡ Some b → Objects R o b → Values R v u → Rest R (units q.stack) s s'
       → Both R e (store_in (here e q) k o o.type v i s) (store_in (here' e q) j b b.type u i s')
   store_in_both q h k j _ _ v u i s s' r c d (objects {type = instance_of class} x) y l = stopped
-  store_in_both q h k j _ _ v u i s s' r c d (objects {type = array_of t} x) y l = if_same R e _ _ (can_store_same q t v u y) _ _ _ _ (go_on_both R e q h _ _ s s' (stored i r c d (objects x) (narrowed t y)) l) (throws_both R e q (codes "java/lang/ArrayStoreException"))
+  store_in_both q h k j _ _ v u i s s' r c d (objects {type = array_of t} x) y l = if_same R e _ _ (can_store_same q t v u y) _ _ _ _ (go_on_both R e q h _ _ s s' (stored i r c d (objects x) (narrowed t y)) l) (throws_both R e q (codes "java/lang/ArrayStoreException") refl)
 
   store_both : (q : Place) → Stands R e q → (k : ArrayKind) → Both R e (store_element (here e q) k) (store_element (here' e q) k)
   store_both q h k = operand_both R e (units q.stack) (operand_of_kind k) _ _ (store_value k (here e q)) (store_value k (here' e q)) (all_of R e q h)
@@ -327,8 +344,8 @@ module _ (R : ℕ → ℕ → Type 0) (e : Setting R) where
   new_array_both q h t = int_both R e (units q.stack) _ _ (new_after t (here e q)) (new_after t (here' e q)) (all_of R e q h) (λ n s s' l. by n s s' l.0)
     where
       by : (n : ℤ) (s s' : List Value) → Lists (Values R) s s' → Both R e (new_after t (here e q) n s) (new_after t (here' e q) n s')
-      by (pos n) s s' l = push_new_both R e q h (new_array t n) s s' (array_is_new e.worlds t n) l
-      by (negsuc n) s s' l = throws_both R e q (codes "java/lang/NegativeArraySizeException")
+      by (pos n) s s' l = push_new_both R e q h (new_array t n) s s' (array_is_new e.worlds t n) (arrays _ ((t, refl), tt)) l
+      by (negsuc n) s s' l = throws_both R e q (codes "java/lang/NegativeArraySizeException") refl
 
   counts_both : (d : ℕ) (counts : List ℤ) (s s' : List Value) (go go' : List ℤ → List Value → Next) (n : ℕ) → Rest R n s s' → ((ns : List ℤ) (r r' : List Value) → Rest R n r r' → Both R e (go ns r) (go' ns r')) → Both R e (with_counts d counts s go) (with_counts d counts s' go')
   counts_both zero counts s s' go go' n l f = f counts s s' l
@@ -337,12 +354,12 @@ module _ (R : ℕ → ℕ → Type 0) (e : Setting R) where
   lengths_both : (q : Place) (ns : List ℤ) (go go' : List ℕ → Next) → ((counts : List ℕ) → Both R e (go counts) (go' counts)) → Both R e (with_lengths (here e q) ns go) (with_lengths (here' e q) ns go')
   lengths_both q [] go go' f = f []
   lengths_both q (pos n ∷ ns) go go' f = lengths_both q ns (λ counts. go (n ∷ counts)) (λ counts. go' (n ∷ counts)) (λ counts. f (n ∷ counts))
-  lengths_both q (negsuc n ∷ ns) go go' f = throws_both R e q (codes "java/lang/NegativeArraySizeException")
+  lengths_both q (negsuc n ∷ ns) go go' f = throws_both R e q (codes "java/lang/NegativeArraySizeException") refl
 
   new_arrays_both : (q : Place) → Stands R e q → (t : FieldType) (d : ℕ) → Both R e (new_arrays_of (here e q) t d) (new_arrays_of (here' e q) t d)
   new_arrays_both q h t d = counts_both d [] _ _ (new_all_after t (here e q)) (new_all_after t (here' e q)) (units q.stack) (all_of R e q h)
       (λ ns s s' l. lengths_both q ns (new_all t (here e q) s) (new_all t (here' e q) s') (λ counts. subst (λ m. Both R e (new_all t (here e q) s counts) (push_all_new (here' e q) (tree (dimensions_of t counts) m) s')) e.alike.made
-      (push_all_new_both R e q h (tree (dimensions_of t counts) (length (left e.worlds).heap)) s s' (trees_new e.worlds t counts) l.0)))
+      (push_all_new_both R e q h (tree (dimensions_of t counts) (length (left e.worlds).heap)) s s' (trees_new e.worlds t counts) (arrays _ (trees_are_arrays t counts (length (left e.worlds).heap))) l.0)))
 
   length_both : (q : Place) → Stands R e q → (o b : Object) (s s' : List Value) → Objects R o b → Lists (Values R) s s' → Both R e (length_of (here e q) o o.type s) (length_of (here' e q) b b.type s')
   length_both q h _ _ s s' (objects {type = array_of t} x) l = push_both R e q h _ _ s s' (lengths_alike _ _ (lists_long x)) l
@@ -362,7 +379,7 @@ module _ (R : ℕ → ℕ → Type 0) (e : Setting R) where
   cast_both : (q : Place) → Stands R e q → (t : ClassRef) (k k' : Option ℕ) (s s' : List Value) → Options R k k' → Popped R (units q.stack) s s' → Both R e (check_cast (here e q) t k s) (check_cast (here' e q) t k' s')
   cast_both q h t _ _ s s' neither l = go_on_both R e q h _ _ _ _ same (more nulls l.0, omega (arith, l.1))
   cast_both q h t _ _ s s' (both {x = k} {y = k'} r) l = object_both R e q (Some k) (Some k') (cast_of t (here e q) k s) (cast_of t (here' e q) k' s') (both r)
-      (λ i j o b a c d x. instance_if q o b t _ _ _ _ x (go_on_both R e q h _ _ _ _ same (more (refs r) l.0, omega (arith, l.1))) (throws_both R e q (codes "java/lang/ClassCastException")))
+      (λ i j o b a c d x. instance_if q o b t _ _ _ _ x (go_on_both R e q h _ _ _ _ same (more (refs r) l.0, omega (arith, l.1))) (throws_both R e q (codes "java/lang/ClassCastException") refl))
 
   test_both : (q : Place) → Stands R e q → (t : ClassRef) (k k' : Option ℕ) (s s' : List Value) → Options R k k' → Lists (Values R) s s' → Both R e (instance_test (here e q) t k s) (instance_test (here' e q) t k' s')
   test_both q h t _ _ s s' neither l = push_both R e q h _ _ s s' ints l
@@ -375,8 +392,8 @@ module _ (R : ℕ → ℕ → Type 0) (e : Setting R) where
   type_both q h CheckCast t = reference_both R e (units q.stack) _ _ (check_cast (here e q) t) (check_cast (here' e q) t) (all_of R e q h) (λ k k' s s' r l. cast_both q h t k k' s s' r l)
   type_both q h InstanceOf t = reference_both R e (units q.stack) _ _ (instance_test (here e q) t) (instance_test (here' e q) t) (all_of R e q h) (λ k k' s s' r l. test_both q h t k k' s s' r l.0)
 
-  new_both : (q : Place) → Stands R e q → (class : List ℕ) → Both R e (row_new (here e q) class) (row_new (here' e q) class)
-  new_both q h class = initialized_both R e q h class _ _ (push_new_both R e q h (new_instance e.worlds.program class) _ _ (instance_is_new e.worlds e.worlds.program class) h.stack)
+  new_both : (q : Place) → Stands R e q → (class : List ℕ) → instruction_in (method_named e.worlds.program q.method) q.at ≡ Some (instr.New class) → Both R e (row_new (here e q) class) (row_new (here' e q) class)
+  new_both q h class c = initialized_both R e q h class _ _ (push_new_both R e q h (new_instance e.worlds.program class) _ _ (instance_is_new e.worlds e.worlds.program class) (instance class q.method q.at c) h.stack)
 
   -- built-in methods
   chars_in_alike : (vs us : List Value) → Lists (Values R) vs us → Options (Lists (Values R)) (chars_in (left e.worlds) vs) (chars_in (right e.worlds) us)
@@ -412,16 +429,16 @@ module _ (R : ℕ → ℕ → Type 0) (e : Setting R) where
       (λ vs us m. subst (λ t. Both R e (go (utf8_text (units_of vs))) (go' (utf8_text t))) (units_alike vs us m) (g (utf8_text (units_of vs))))
 
   char_at_both : (q : Place) → Stands R e q → (cs ds vs us s s' : List Value) → Lists (Values R) cs ds → Lists (Values R) vs us → Lists (Values R) s s' → Both R e (char_at (here e q) cs vs s) (char_at (here' e q) ds us s')
-  char_at_both q h cs ds _ _ s s' m none l = throws_both R e q _
+  char_at_both q h cs ds _ _ s s' m none l = throws_both R e q (codes "java/lang/StringIndexOutOfBoundsException") refl
   char_at_both q h cs ds _ _ s s' m (more (ints {n = pos i}) n) l = by (slice_get cs i) (slice_get ds i) (got m i)
     where
       by : (o b : Option Value) → Options (Values R) o b → Both R e (elim o [ Some v ↦ push (here e q) v s | None ↦ throws (here e q) (codes "java/lang/StringIndexOutOfBoundsException") ]) (elim b [ Some v ↦ push (here' e q) v s' | None ↦ throws (here' e q) (codes "java/lang/StringIndexOutOfBoundsException") ])
-      by _ _ neither = throws_both R e q (codes "java/lang/StringIndexOutOfBoundsException")
+      by _ _ neither = throws_both R e q (codes "java/lang/StringIndexOutOfBoundsException") refl
       by _ _ (both a) = push_both R e q h _ _ s s' a l
-  char_at_both q h cs ds _ _ s s' m (more (ints {n = negsuc i}) n) l = throws_both R e q _
-  char_at_both q h cs ds _ _ s s' m (more longs n) l = throws_both R e q _
-  char_at_both q h cs ds _ _ s s' m (more nulls n) l = throws_both R e q _
-  char_at_both q h cs ds _ _ s s' m (more (refs r) n) l = throws_both R e q _
+  char_at_both q h cs ds _ _ s s' m (more (ints {n = negsuc i}) n) l = throws_both R e q (codes "java/lang/StringIndexOutOfBoundsException") refl
+  char_at_both q h cs ds _ _ s s' m (more longs n) l = throws_both R e q (codes "java/lang/StringIndexOutOfBoundsException") refl
+  char_at_both q h cs ds _ _ s s' m (more nulls n) l = throws_both R e q (codes "java/lang/StringIndexOutOfBoundsException") refl
+  char_at_both q h cs ds _ _ s s' m (more (refs r) n) l = throws_both R e q (codes "java/lang/StringIndexOutOfBoundsException") refl
 
   print_both : (q : Place) → Stands R e q → (m : MethodName) (vs us s s' : List Value) → Lists (Values R) vs us → Rest R (units q.stack) s s' → Both R e (print_stream_method (here e q) m vs s) (print_stream_method (here' e q) m us s')
   print_both q h m vs us s s' n l = printed_both q m.descriptor.parameters vs us (print_bytes m (here e q) s) (print_bytes m (here' e q) s') n
@@ -432,8 +449,8 @@ module _ (R : ℕ → ℕ → Type 0) (e : Setting R) where
       (λ cs ds x. if_both R e (same_text m.name (codes "length")) _ _ _ _ (push_both R e q h _ _ s s' (lengths_alike _ _ (lists_long x)) l.0) (char_at_both q h cs ds vs us s s' x n l.0))
 
   start_both : (q : Place) → Stands R e q → (k j : ℕ) (s s' : List Value) → R k j → Rest R (units q.stack) s s' → Both R e (start_thread (here e q) k s) (start_thread (here' e q) j s')
-  start_both q h k j s s' r l = if_same R e _ _ (e.alike.started k j r) _ _ _ _ (throws_both R e q (codes "java/lang/IllegalThreadStateException"))
-      (starts r (framed R e _ _ None (goes_on _ h.its (moved s (λ b. omega (arith, b, l.1)))) (top R e q h (q.at + 1) q.locals q.locals' s s' h.locals l.0)))
+  start_both q h k j s s' r l = if_same R e _ _ (e.alike.started k j r) _ _ _ _ (throws_both R e q (codes "java/lang/IllegalThreadStateException") refl)
+      (starts r (framed R e _ _ None (goes_on _ h.its (moved s (λ b. omega (arith, b, l.1)) h.stands)) (top R e q h (q.at + 1) q.locals q.locals' s s' h.locals l.0)) as_before)
 
   built_in_both : (q : Place) → Stands R e q → (m : MethodName) (k j : ℕ) (vs us s s' : List Value) → R k j → Lists (Values R) vs us → Rest R (units q.stack) s s' → Both R e (row_built_in (here e q) m k vs s) (row_built_in (here' e q) m j us s')
   built_in_both q h m k j vs us s s' r n l = if_both R e (same_text m.class print_stream_class) _ _ _ _ (print_both q h m vs us s s' n l)
@@ -446,64 +463,64 @@ module _ (R : ℕ → ℕ → Type 0) (e : Setting R) where
   calling_alike : (q : Place) → Stands R e q → (s s' : List Value) → Rest R (units q.stack) s s' → Lists (Frames R) (calling (here e q) s) (calling (here' e q) s')
   calling_alike q h s s' l = top R e q h q.at q.locals q.locals' s s' h.locals l.0
 
-  call_code_both : (q : Place) → Stands R e q → (found : FoundMethod) (code : Code) (vs us : List Value) (o o' : Option ℕ) (s s' : List Value) → Found e.worlds.program found → found.method.code ≡ Some code → Lists (Values R) vs us → Options R o o' → Rest R (units q.stack) s s' → Both R e (call_code (here e q) found code vs o s) (call_code (here' e q) found code us o' s')
+  call_code_both : (q : Place) → Stands R e q → (found : FoundMethod) (code : Code) (vs us : List Value) (o o' : Option ℕ) (s s' : List Value) → FoundFor e.worlds.program found (length (locals_of vs)) → found.method.code ≡ Some code → Lists (Values R) vs us → Options R o o' → Rest R (units q.stack) s s' → Both R e (call_code (here e q) found code vs o s) (call_code (here' e q) found code us o' s')
   call_code_both q h found code vs us o o' s s' x y n r l = depth_both R e _ _ _ _ (calling_alike q h s s' l)
-      (λ d. enter_if_both R e o o' (begun found code vs o (here e q) s) (begun found code us o' (here' e q) s') r (λ ms ms' z. frames_both R e (with_monitors (left e.worlds) ms) (with_monitors (right e.worlds) ms') _ _ None (goes_on _ h.its (called s vs found code o (λ b. omega (arith, b, l.1)) d x y)) (locks z) (more (methods (called_alike code vs us n) r) (calling_alike q h s s' l))))
+      (λ d. enter_if_both R e o o' (begun found code vs o (here e q) s) (begun found code us o' (here' e q) s') r (λ ms ms' z. frames_both R e (with_monitors (left e.worlds) ms) (with_monitors (right e.worlds) ms') _ _ None (goes_on _ h.its (called s vs found code o (λ b. omega (arith, b, l.1)) d x.0 y x.1 h.stands)) (locks z) (more (methods (called_alike code vs us n) r) (calling_alike q h s s' l))))
 
-  call_instance_both : (q : Place) → Stands R e q → (found : FoundMethod) (k j : ℕ) (vs us s s' : List Value) (code : Option Code) → Found e.worlds.program found → found.method.code ≡ code → R k j → Lists (Values R) vs us → Rest R (units q.stack) s s' → Both R e (call_instance (here e q) found k vs s code) (call_instance (here' e q) found j us s' code)
+  call_instance_both : (q : Place) → Stands R e q → (found : FoundMethod) (k j : ℕ) (vs us s s' : List Value) (code : Option Code) → FoundFor e.worlds.program found (suc (length (locals_of vs))) → found.method.code ≡ code → R k j → Lists (Values R) vs us → Rest R (units q.stack) s s' → Both R e (call_instance (here e q) found k vs s code) (call_instance (here' e q) found j us s' code)
   call_instance_both q h found k j vs us s s' None x y r n l = built_in_both q h (name_of_method found) k j vs us s s' r n l
   call_instance_both q h found k j vs us s s' (Some code) x y r n l = call_code_both q h found code (Ref k ∷ vs) (Ref j ∷ us) _ _ s s' x y (more (refs r) n) (monitor_alike found.method k j r) l
 
-  call_found_both : (q : Place) → Stands R e q → (found : Option FoundMethod) (k j : ℕ) (vs us s s' : List Value) → ((f : FoundMethod) → found ≡ Some f → Found e.worlds.program f) → R k j → Lists (Values R) vs us → Rest R (units q.stack) s s' → Both R e (call_found (here e q) found k vs s) (call_found (here' e q) found j us s')
-  call_found_both q h None k j vs us s s' x r n l = throws_both R e q _
-  call_found_both q h (Some found) k j vs us s s' x r n l = if_both R e (is_abstract found.method.flags) _ _ _ _ (throws_both R e q _) (call_instance_both q h found k j vs us s s' found.method.code (x found refl) refl r n l)
+  call_found_both : (q : Place) → Stands R e q → (found : Option FoundMethod) (k j : ℕ) (vs us s s' : List Value) → ((f : FoundMethod) → found ≡ Some f → FoundFor e.worlds.program f (suc (length (locals_of vs)))) → R k j → Lists (Values R) vs us → Rest R (units q.stack) s s' → Both R e (call_found (here e q) found k vs s) (call_found (here' e q) found j us s')
+  call_found_both q h None k j vs us s s' x r n l = throws_both R e q (codes "java/lang/AbstractMethodError") refl
+  call_found_both q h (Some found) k j vs us s s' x r n l = if_both R e (is_abstract found.method.flags) _ _ _ _ (throws_both R e q (codes "java/lang/AbstractMethodError") refl) (call_instance_both q h found k j vs us s s' found.method.code (x found refl) refl r n l)
 
   receiver_both : (q : Place) → Stands R e q → (m : MethodRef) (go go' : ℕ → Object → List Value → List Value → Next)
-      → ((k j : ℕ) (o b : Object) (vs us s s' : List Value) → R k j → Objects R o b → Lists (Values R) vs us → Rest R (units q.stack) s s' → Both R e (go k o vs s) (go' j b us s')) → Both R e (with_receiver (here e q) m go) (with_receiver (here' e q) m go')
-  receiver_both q h m go go' g = arguments_both R e (units q.stack) (reverse m.descriptor.parameters) [] [] _ _ (receive (here e q) go) (receive (here' e q) go') none (all_of R e q h)
-      (λ vs us t t' n f. reference_both R e (units q.stack) t t' (receive_from (here e q) go vs) (receive_from (here' e q) go' us) f
-      (λ i i' s s' r l. object_both R e q i i' (receive_in go vs s) (receive_in go' us s') r (λ k j o b a c d x. g k j o b vs us s s' a x n (less (units q.stack) s s' l))))
+      → ((k j : ℕ) (o b : Object) (vs us s s' : List Value) → length (locals_of vs) ≤ argument_slots m.descriptor → R k j → Objects R o b → Lists (Values R) vs us → Rest R (units q.stack) s s' → Both R e (go k o vs s) (go' j b us s')) → Both R e (with_receiver (here e q) m go) (with_receiver (here' e q) m go')
+  receiver_both q h m go go' g = arguments_both R e (units q.stack) (argument_slots m.descriptor) (reverse m.descriptor.parameters) [] [] _ _ (receive (here e q) go) (receive (here' e q) go') (from_none m.descriptor) none (all_of R e q h)
+      (λ vs us t t' z n f. reference_both R e (units q.stack) t t' (receive_from (here e q) go vs) (receive_from (here' e q) go' us) f
+      (λ i i' s s' r l. object_both R e q i i' (receive_in go vs s) (receive_in go' us s') r (λ k j o b a c d x. g k j o b vs us s s' z a x n (less (units q.stack) s s' l))))
 
   invoke_virtual_both : (q : Place) → Stands R e q → (class : List ℕ) (m : MethodRef) → Both R e (invoke_virtual (here e q) class m) (invoke_virtual (here' e q) class m)
   invoke_virtual_both q h class m = receiver_both q h m (virtual_of class m (here e q)) (virtual_of class m (here' e q)) by
     where
-      by : (k j : ℕ) (o b : Object) (vs us s s' : List Value) → R k j → Objects R o b → Lists (Values R) vs us → Rest R (units q.stack) s s' → Both R e (virtual_of class m (here e q) k o vs s) (virtual_of class m (here' e q) j b us s')
-      by k j o b vs us s s' r (objects {type = type} {vs = xs} x) n l = if_both R e (is_of_class (here e q) (record { type = type; values = xs }) class) _ _ _ _ (call_found_both q h (select e.worlds.program (class_of type) m.name m.descriptor) k j vs us s s' (λ f c. by_class (class_of type) m.name m.descriptor c) r n l) stopped
+      by : (k j : ℕ) (o b : Object) (vs us s s' : List Value) → length (locals_of vs) ≤ argument_slots m.descriptor → R k j → Objects R o b → Lists (Values R) vs us → Rest R (units q.stack) s s' → Both R e (virtual_of class m (here e q) k o vs s) (virtual_of class m (here' e q) j b us s')
+      by k j o b vs us s s' z r (objects {type = type} {vs = xs} x) n l = if_both R e (is_of_class (here e q) (record { type = type; values = xs }) class) _ _ _ _ (call_found_both q h (select e.worlds.program (class_of type) m.name m.descriptor) k j vs us s s' (λ f c. (by_class (class_of type) m.name m.descriptor c, omega (arith, z))) r n l) stopped
 
   invoke_interface_both : (q : Place) → Stands R e q → (class : List ℕ) (m : MethodRef) → Both R e (invoke_interface (here e q) class m) (invoke_interface (here' e q) class m)
   invoke_interface_both q h class m = receiver_both q h m (interface_of class m (here e q)) (interface_of class m (here' e q)) by
     where
-      by : (k j : ℕ) (o b : Object) (vs us s s' : List Value) → R k j → Objects R o b → Lists (Values R) vs us → Rest R (units q.stack) s s' → Both R e (interface_of class m (here e q) k o vs s) (interface_of class m (here' e q) j b us s')
-      by k j o b vs us s s' r (objects {type = type} {vs = xs} x) n l = if_both R e (is_of_class (here e q) (record { type = type; values = xs }) class) _ _ _ _ (call_found_both q h (select e.worlds.program (class_of type) m.name m.descriptor) k j vs us s s' (λ f c. by_class (class_of type) m.name m.descriptor c) r n l) (throws_both R e q (codes "java/lang/IncompatibleClassChangeError"))
+      by : (k j : ℕ) (o b : Object) (vs us s s' : List Value) → length (locals_of vs) ≤ argument_slots m.descriptor → R k j → Objects R o b → Lists (Values R) vs us → Rest R (units q.stack) s s' → Both R e (interface_of class m (here e q) k o vs s) (interface_of class m (here' e q) j b us s')
+      by k j o b vs us s s' z r (objects {type = type} {vs = xs} x) n l = if_both R e (is_of_class (here e q) (record { type = type; values = xs }) class) _ _ _ _ (call_found_both q h (select e.worlds.program (class_of type) m.name m.descriptor) k j vs us s s' (λ f c. (by_class (class_of type) m.name m.descriptor c, omega (arith, z))) r n l) (throws_both R e q (codes "java/lang/IncompatibleClassChangeError") refl)
 
-  invoke_special_both : (q : Place) → Stands R e q → (class : List ℕ) (m : MethodRef) → Both R e (invoke_special (here e q) class m) (invoke_special (here' e q) class m)
-  invoke_special_both q h class m = receiver_both q h m (special_of class m (here e q)) (special_of class m (here' e q)) by
+  invoke_special_both : (q : Place) → Stands R e q → (class : List ℕ) (m : MethodRef) → instruction_in (method_named e.worlds.program q.method) q.at ≡ Some (instr.Invoke invoke.Special m) → m.class ≡ named.Class class → Both R e (invoke_special (here e q) class m) (invoke_special (here' e q) class m)
+  invoke_special_both q h class m i y = receiver_both q h m (special_of class m (here e q)) (special_of class m (here' e q)) by
     where
-      by : (k j : ℕ) (o b : Object) (vs us s s' : List Value) → R k j → Objects R o b → Lists (Values R) vs us → Rest R (units q.stack) s s' → Both R e (special_of class m (here e q) k o vs s) (special_of class m (here' e q) j b us s')
-      by k j o b vs us s s' r (objects {type = type} {vs = xs} x) n l = if_both R e (is_of_class (here e q) (record { type = type; values = xs }) class) _ _ _ _ (call_found_both q h (found_special (here e q) class m) k j vs us s s' (λ f c. by_invokespecial (here e q) class m refl c) r n l) stopped
+      by : (k j : ℕ) (o b : Object) (vs us s s' : List Value) → length (locals_of vs) ≤ argument_slots m.descriptor → R k j → Objects R o b → Lists (Values R) vs us → Rest R (units q.stack) s s' → Both R e (special_of class m (here e q) k o vs s) (special_of class m (here' e q) j b us s')
+      by k j o b vs us s s' z r (objects {type = type} {vs = xs} x) n l = if_both R e (is_of_class (here e q) (record { type = type; values = xs }) class) _ _ _ _ (call_found_both q h (found_special (here e q) class m) k j vs us s s' (λ f c. (by_invokespecial (here e q) class m refl c i y, omega (arith, z))) r n l) stopped
 
-  call_static_both : (q : Place) → Stands R e q → (found : FoundMethod) (vs us s s' : List Value) (code : Option Code) → Found e.worlds.program found → found.method.code ≡ code → Lists (Values R) vs us → Rest R (units q.stack) s s' → Both R e (call_static (here e q) found vs s code) (call_static (here' e q) found us s' code)
+  call_static_both : (q : Place) → Stands R e q → (found : FoundMethod) (vs us s s' : List Value) (code : Option Code) → FoundFor e.worlds.program found (length (locals_of vs)) → found.method.code ≡ code → Lists (Values R) vs us → Rest R (units q.stack) s s' → Both R e (call_static (here e q) found vs s code) (call_static (here' e q) found us s' code)
   call_static_both q h found vs us s s' None x y n l = stopped
   call_static_both q h found vs us s s' (Some code) x y n l = call_code_both q h found code vs us None None s s' x y n neither l
 
-  invoke_found_both : (q : Place) → Stands R e q → (m : MethodRef) (found : Option FoundMethod) → ((f : FoundMethod) → found ≡ Some f → Found e.worlds.program f) → Both R e (invoke_found (here e q) m found) (invoke_found (here' e q) m found)
+  invoke_found_both : (q : Place) → Stands R e q → (m : MethodRef) (found : Option FoundMethod) → ((f : FoundMethod) → found ≡ Some f → (x : Found e.worlds.program f) × (slots_of x ≡ argument_slots m.descriptor)) → Both R e (invoke_found (here e q) m found) (invoke_found (here' e q) m found)
   invoke_found_both q h m None x = stopped
   invoke_found_both q h m (Some found) x = initialized_both R e q h found.class.name _ _
-      (arguments_both R e (units q.stack) (reverse m.descriptor.parameters) [] [] _ _ (static_of found (here e q)) (static_of found (here' e q)) none (all_of R e q h) (λ vs us s s' n l. call_static_both q h found vs us s s' found.method.code (x found refl) refl n l))
+      (arguments_both R e (units q.stack) (argument_slots m.descriptor) (reverse m.descriptor.parameters) [] [] _ _ (static_of found (here e q)) (static_of found (here' e q)) (from_none m.descriptor) none (all_of R e q h) (λ vs us s s' z n l. call_static_both q h found vs us s s' found.method.code ((x found refl).0, omega (arith, z, (x found refl).1)) refl n l))
 
-  invoke_both : (q : Place) → Stands R e q → (op : InvokeOp) (m : MethodRef) → Both R e (row_invoke (here e q) op m) (row_invoke (here' e q) op m)
-  invoke_both q h op m = by m.class op
+  invoke_both : (q : Place) → Stands R e q → (op : InvokeOp) (m : MethodRef) → instruction_in (method_named e.worlds.program q.method) q.at ≡ Some (instr.Invoke op m) → Both R e (row_invoke (here e q) op m) (row_invoke (here' e q) op m)
+  invoke_both q h op m i = by m.class op refl i
     where
-      by : (c : ClassRef) (op : InvokeOp) → Both R e (row_invoke_of (here e q) op m c) (row_invoke_of (here' e q) op m c)
-      by (named.Class class) invoke.Virtual = invoke_virtual_both q h class m
-      by (named.Class class) invoke.Special = invoke_special_both q h class m
-      by (named.Class class) invoke.Static = invoke_found_both q h m (resolve_method e.worlds.program class m.name m.descriptor) (λ f c. by_name class m.name m.descriptor c)
-      by (named.Class class) invoke.Interface = invoke_interface_both q h class m
-      by (named.Array t) op = stopped
+      by : (c : ClassRef) (op : InvokeOp) → m.class ≡ c → instruction_in (method_named e.worlds.program q.method) q.at ≡ Some (instr.Invoke op m) → Both R e (row_invoke_of (here e q) op m c) (row_invoke_of (here' e q) op m c)
+      by (named.Class class) invoke.Virtual y i = invoke_virtual_both q h class m
+      by (named.Class class) invoke.Special y i = invoke_special_both q h class m i y
+      by (named.Class class) invoke.Static y i = invoke_found_both q h m (resolve_method e.worlds.program class m.name m.descriptor) (λ f c. (by_name class m.name m.descriptor c, refl))
+      by (named.Class class) invoke.Interface y i = invoke_interface_both q h class m
+      by (named.Array t) op y i = stopped
 
   -- returns
   pub ended_both : (fs : List Frame) → e.thread.frames ≡ fs → IsLast fs → Both R e (ended (left e.worlds) e.number e.thread) (ended (right e.worlds) e.number e.thread')
-  ended_both fs x y = went None same (record { object = refl; other = refl; frames = none; pending = neither; ending = refl; turn = ends fs x y })
+  ended_both fs x y = went None same (record { object = refl; other = refl; frames = none; pending = neither; ending = refl; turn = ends fs x y }) cleared
 
   result_alike : (o b : Option Value) (s s' : List Value) → Options (Values R) o b → Lists (Values R) s s' → Lists (Values R) (with_result o s) (with_result b s')
   result_alike _ _ s s' neither l = l
@@ -511,14 +528,14 @@ module _ (R : ℕ → ℕ → Type 0) (e : Setting R) where
 
   returned_both : (m : MethodName) (a : Activation) (j : Option ℕ) (ms ms' : List Monitor) (o b : Option Value) (fs fs' : List Frame) → e.thread.frames ≡ method_frame m a j ∷ fs → Locks R e.worlds e.number ms ms' → Options (Values R) o b → Lists (Frames R) fs fs'
       → Both R e (returned_to (with_monitors (left e.worlds) ms) e.number e.thread o fs) (returned_to (with_monitors (right e.worlds) ms') e.number e.thread' b fs')
-  returned_both m a j ms ms' o b _ _ d x r none = went None (locks x) (record { object = refl; other = refl; frames = none; pending = neither; ending = refl; turn = ends _ d last_method })
+  returned_both m a j ms ms' o b _ _ d x r none = went None (locks x) (record { object = refl; other = refl; frames = none; pending = neither; ending = refl; turn = ends _ d last_method }) cleared
   returned_both m a j ms ms' o b _ _ d x r (more (methods (acts {max_stack = max_stack} ls s) i) l) = same_told R e _ _ (ap (λ n. nat_le n max_stack) (units_same (result_alike o b _ _ r s))) _ _ _ _
       (λ c. frames_both R e (with_monitors (left e.worlds) ms) (with_monitors (right e.worlds) ms') _ _ None (goes_on _ d (gave (with_result o _) (leb-true _ max_stack c))) (locks x) (more (methods (acts ls (result_alike o b _ _ r s)) i) l)) stopped
   returned_both m a j ms ms' o b _ _ d x r (more initializations l) = frames_both R e (with_monitors (left e.worlds) ms) (with_monitors (right e.worlds) ms') _ _ None (goes_on _ d turning.left) (locks x) (more initializations l)
   returned_both m a j ms ms' o b _ _ d x r (more entries l) = frames_both R e (with_monitors (left e.worlds) ms) (with_monitors (right e.worlds) ms') _ _ None (goes_on _ d turning.left) (locks x) (more entries l)
 
   return_from_both : (q : Place) → Stands R e q → (o b : Option Value) → Options (Values R) o b → Both R e (return_from (here e q) o) (return_from (here' e q) b)
-  return_from_both q h o b r = leave_if_both R e q.monitor q.monitor' _ _ (return_in o (here e q)) (return_in b (here' e q)) h.monitor (throws_both R e q (codes "java/lang/IllegalMonitorStateException"))
+  return_from_both q h o b r = leave_if_both R e q.monitor q.monitor' _ _ (return_in o (here e q)) (return_in b (here' e q)) h.monitor (throws_both R e q (codes "java/lang/IllegalMonitorStateException") refl)
       (λ ms ms' x. returned_both q.method _ q.monitor ms ms' o b q.below q.below' h.its x r h.below)
 
   return_value_both : (q : Place) → Stands R e q → (o : OperandType) (t : Option FieldType) (v u : Value) → Values R v u → Both R e (return_value (here e q) o t v) (return_value (here' e q) o t u)
@@ -539,13 +556,13 @@ module _ (R : ℕ → ℕ → Type 0) (e : Setting R) where
       by (Some t) = stopped
 
   -- athrow, monitors, plain instructions
-  throw_if : (k j : ℕ) (o b : Object) → R k j → Objects R o b → (q : Place) → Both R e (throw_in (here e q) k o) (throw_in (here' e q) j b)
-  throw_if k j o b r (objects {type = type} l) q = if_both R e (is_kind_of (left e.worlds) type throwable_class) _ _ _ _
-      (went None same (record { object = refl; other = refl; frames = e.running.frames; pending = both r; ending = e.running.ending; turn = raises k })) stopped
+  throw_if : (k j : ℕ) (o b : Object) → slice_get (left e.worlds).heap k ≡ Some o → R k j → Objects R o b → (q : Place) → Both R e (throw_in (here e q) k o) (throw_in (here' e q) j b)
+  throw_if k j _ _ d r (objects {type = type} l) q = if_told R e (is_kind_of (left e.worlds) type throwable_class) _ _ _ _
+      (λ y. went None same (record { object = refl; other = refl; frames = e.running.frames; pending = both r; ending = e.running.ending; turn = raises k }) (threw _ d y)) (λ y. stopped)
 
   throw_row_both : (q : Place) → Stands R e q → Both R e (row_throw (here e q)) (row_throw (here' e q))
   throw_row_both q h = reference_both R e (units q.stack) _ _ (throw_from (here e q)) (throw_from (here' e q)) (all_of R e q h)
-      (λ i i' s s' r l. object_both R e q i i' (throw_in (here e q)) (throw_in (here' e q)) r (λ k j o b a c d x. throw_if k j o b a x q))
+      (λ i i' s s' r l. object_both R e q i i' (throw_in (here e q)) (throw_in (here' e q)) r (λ k j o b a c d x. throw_if k j o b c a x q))
 
   monitor_both : (q : Place) → Stands R e q → (op : MonitorOp) → Both R e (row_monitor (here e q) op) (row_monitor (here' e q) op)
   monitor_both q h Enter = reference_both R e (units q.stack) _ _ (enter_from (here e q)) (enter_from (here' e q)) (all_of R e q h)
@@ -553,11 +570,11 @@ module _ (R : ℕ → ℕ → Type 0) (e : Setting R) where
       (λ k j o b a c d x. enter_both R e k j (λ w. go_on_in (here e q) w s) (λ w. go_on_in (here' e q) w s') a (λ ms ms' y. go_on_both R e q h _ _ s s' (locks y) (less (units q.stack) s s' l))))
   monitor_both q h Exit = reference_both R e (units q.stack) _ _ (exit_from (here e q)) (exit_from (here' e q)) (all_of R e q h)
       (λ i i' s s' r l. object_both R e q i i' (exit_in (here e q) s) (exit_in (here' e q) s') r
-      (λ k j o b a c d x. leave_both R e k j _ _ (λ w. go_on_in (here e q) w s) (λ w. go_on_in (here' e q) w s') a (throws_both R e q (codes "java/lang/IllegalMonitorStateException")) (λ ms ms' y. go_on_both R e q h _ _ s s' (locks y) (less (units q.stack) s s' l))))
+      (λ k j o b a c d x. leave_both R e k j _ _ (λ w. go_on_in (here e q) w s) (λ w. go_on_in (here' e q) w s') a (throws_both R e q (codes "java/lang/IllegalMonitorStateException") refl) (λ ms ms' y. go_on_both R e q h _ _ s s' (locks y) (less (units q.stack) s s' l))))
 
   outcome_both : (q : Place) → Stands R e q → (op : Plain) → instruction_in (method_named e.worlds.program q.method) q.at ≡ Some (instr.Plain op) → (a b : Outcome) → row_plain op (Here.frame (here e q)) ≡ a → Outcomes R a b → Both R e (from_outcome (here e q) a) (from_outcome (here' e q) b)
   outcome_both q h op c _ _ d (alike.go a) = frames_both R e (left e.worlds) (right e.worlds) _ _ None (goes_on _ h.its (acted op c d)) same (more (methods a h.monitor) h.below)
-  outcome_both q h op c _ _ d alike.throw = throws_both R e q _
+  outcome_both q h op c _ _ d alike.throw = throw_both R e _ e.thread.frames e.thread'.frames (by_plain q.method _ op c d) raises e.running.frames
   outcome_both q h op c _ _ d alike.fault = stopped
 
   row_both : (q : Place) → Stands R e q → (i : Instr) → instruction_in (method_named e.worlds.program q.method) q.at ≡ Some i → Both R e (row (here e q) i) (row (here' e q) i)
@@ -568,10 +585,10 @@ module _ (R : ℕ → ℕ → Type 0) (e : Setting R) where
   row_both q h (instr.Monitor op) c = monitor_both q h op
   row_both q h (instr.Constant x) c = constant_both q h x
   row_both q h (instr.Field op f) c = field_both q h op f
-  row_both q h (instr.Invoke op m) c = invoke_both q h op m
-  row_both q h (instr.New class) c = new_both q h class
+  row_both q h (instr.Invoke op m) c = invoke_both q h op m c
+  row_both q h (instr.New class) c = new_both q h class c
   row_both q h (instr.Type op t) c = type_both q h op t
 
-  pub instruct_both : (q : Place) → Stands R e q → (o : Option Instr) → instruction_in (method_named e.worlds.program q.method) q.at ≡ o → Both R e (instruction_at (here e q) o) (instruction_at (here' e q) o)
+  pub instruct_both : (q : Place) → (IsAt e.worlds.program q.method q.at → Stands R e q) → (o : Option Instr) → instruction_in (method_named e.worlds.program q.method) q.at ≡ o → Both R e (instruction_at (here e q) o) (instruction_at (here' e q) o)
   instruct_both q h None c = stopped
-  instruct_both q h (Some i) c = row_both q h i c
+  instruct_both q h (Some i) c = row_both q (h (i, c)) i c

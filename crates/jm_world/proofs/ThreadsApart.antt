@@ -125,10 +125,10 @@ module _ (w : World) (n m : ℕ) (t s r : Thread) (there : slice_get w.threads (
   comes_are : (x y : Next) → Comes Same (beside w m r) n t t x y → y ≡ put_in m r x
   comes_are _ _ stopped = refl
   comes_are _ _ (blocked x) = refl
-  comes_are _ _ (went {w = v} {v = u} {s = a} {r = b} d c x) = ap (λ v. goes (with_thread v n b)) (changes_are d v u c) ∙ ap goes (swapped v a b (thread_is Same (λ k j e. e) (beside w m r) n d t a b x))
-  comes_are _ _ (makes os {s = a} {r = b} q x) = ap goes (swapped (with_objects w os) a b (thread_is (Grown Same (beside w m r) (length os)) (grown_is (length os)) (beside w m r) n None t a b x))
-  comes_are _ _ (fails class os {s = a} {r = b} q x) = ap goes (swapped _ a b (thread_is (Grown Same (beside w m r) (length os)) (grown_is (length os)) (beside w m r) n (Some (class, Failed)) t a b x))
-  comes_are _ _ (starts {k = k} {j = j} {s = a} {r = b} e x) =
+  comes_are _ _ (went {w = v} {v = u} {s = a} {r = b} d c x y) = ap (λ v. goes (with_thread v n b)) (changes_are d v u c) ∙ ap goes (swapped v a b (thread_is Same (λ k j e. e) (beside w m r) n d t a b x))
+  comes_are _ _ (makes os {s = a} {r = b} q x y) = ap goes (swapped (with_objects w os) a b (thread_is (Grown Same (beside w m r) (length os)) (grown_is (length os)) (beside w m r) n None t a b x))
+  comes_are _ _ (fails class os {s = a} {r = b} q x y) = ap goes (swapped _ a b (thread_is (Grown Same (beside w m r) (length os)) (grown_is (length os)) (beside w m r) n (Some (class, Failed)) t a b x))
+  comes_are _ _ (starts {k = k} {j = j} {s = a} {r = b} e x y) =
       ap (λ v. goes (with_new_thread v (new_thread j))) (swapped w a b (thread_is Same (λ k j e. e) (beside w m r) n None t a b x))
       ∙ ap (λ j. goes (with_new_thread (with_thread (with_thread w n a) m r) (new_thread j))) (sym e)
       ∙ ap (λ ts. goes (record w { threads = ts })) (sym (set_front (slice_set w.threads (n - 1) a) (new_thread k ∷ []) (m - 1) r (omega (arith, within, length_written w.threads (n - 1) a))))

@@ -1,5 +1,5 @@
 -- What a step of one thread reads of two worlds, and what comes of it in both.
-use Rattle.std.specs.Prelude.{◌≡◌, ◌⊎◌, ℕ, ◌+◌, ◌-◌, ◌^◌, ◌<◌, ◌≤◌, List, ◌∷◌, ◌++◌, Option, Some, None, true, false, nat_eq, nat_lt, length, slice_get}
+use Rattle.std.specs.Prelude.{◌≡◌, ◌⊎◌, ℕ, ◌+◌, ◌-◌, ◌^◌, ◌<◌, ◌≤◌, List, [], ◌∷◌, ◌++◌, Option, Some, None, true, false, nat_eq, nat_lt, length, slice_get}
 use Rattle.std.specs.List.{AllByRecursion}
 use Rattle.jm_program.specs.declared.instruction.plain.Plain.{Plain}
 use Rattle.jm_values.specs.Activation.{Activation}
@@ -19,7 +19,8 @@ use Rattle.jm_world.specs.declared.class_state.ClassState.{ClassState}
 use Rattle.jm_world.specs.declared.class_state.ClassState.TheVariants.{InProgress, Failed}
 use Rattle.jm_world.specs.declared.stop.Stop.{Stop}
 use Rattle.jm_world.specs.SideBySide.{Values, Lists, Options, Objects, Acts, Frames, Held}
-use Rattle.jm_world.proofs.Turning.{Turn}
+use Rattle.jm_world.proofs.Leaving.{Leaves}
+use Rattle.jm_world.proofs.Turning.{IsAt, Turn}
 use Rattle.jm_world.specs.TwoWorlds.{Two, left, right}
 use Rattle.jm_values.specs.Outcome.{Outcome}
 use Rattle.jm_values.specs.Outcome as outcome
@@ -117,12 +118,12 @@ pub data Changes (R : ℕ → ℕ → Type 0) (p : Two) (n : ℕ) : Option (List
 pub data Comes (R : ℕ → ℕ → Type 0) (p : Two) (n : ℕ) (t u : Thread) : Next → Next → Type 0 where
   stopped : {s : Stop} → Comes R p n t u (stops s) (stops s)
   blocked : Waits p n → Comes R p n t u blocks blocks
-  went : {w v : World} {s r : Thread} (c : Option (List ℕ × ClassState)) → Changes R p n c w v → Turned R p n t u c s r → Comes R p n t u (goes (with_thread w n s)) (goes (with_thread v n r))
-  makes : (os : List Object) {s r : Thread} → AreNew p os → Turned (Grown R p (length os)) p n t u None s r
+  went : {w v : World} {s r : Thread} (c : Option (List ℕ × ClassState)) → Changes R p n c w v → Turned R p n t u c s r → Leaves (left p) t.pending [] s.pending → Comes R p n t u (goes (with_thread w n s)) (goes (with_thread v n r))
+  makes : (os : List Object) {s r : Thread} → AreNew p os → Turned (Grown R p (length os)) p n t u None s r → Leaves (left p) t.pending os s.pending
       → Comes R p n t u (goes (with_thread (with_objects (left p) os) n s)) (goes (with_thread (with_objects (right p) os) n r))
-  fails : (class : List ℕ) (os : List Object) {s r : Thread} → AreNew p os → Turned (Grown R p (length os)) p n t u (Some (class, Failed)) s r
+  fails : (class : List ℕ) (os : List Object) {s r : Thread} → AreNew p os → Turned (Grown R p (length os)) p n t u (Some (class, Failed)) s r → Leaves (left p) t.pending os s.pending
       → Comes R p n t u (goes (with_thread (with_objects (with_state (left p) class Failed) os) n s)) (goes (with_thread (with_objects (with_state (right p) class Failed) os) n r))
-  starts : {k j : ℕ} {s r : Thread} → R k j → Turned R p n t u None s r
+  starts : {k j : ℕ} {s r : Thread} → R k j → Turned R p n t u None s r → Leaves (left p) t.pending [] s.pending
       → Comes R p n t u (goes (with_new_thread (with_thread (left p) n s) (new_thread k))) (goes (with_new_thread (with_thread (right p) n r) (new_thread j)))
 
 -- a step of a thread in two worlds
@@ -162,3 +163,4 @@ pub record Stands (R : ℕ → ℕ → Type 0) (e : Setting R) (q : Place) : Typ
   pub locals : Lists (Options (Values R)) q.locals q.locals'
   pub stack : Lists (Values R) q.stack q.stack'
   pub below : Lists (Frames R) q.below q.below'
+  pub stands : IsAt e.worlds.program q.method q.at

@@ -1,8 +1,9 @@
 -- The words that rows are written in, in two worlds beside one another.
 use Rattle.std.proofs.Common.{◌≡◌, ℕ, zero, suc, ◌+◌, ◌^◌, ◌<◌, ◌≤◌, List, [], ◌∷◌, ◌++◌, Option, Some, None, Bool, true, false, refl, length, ap, arith, inl, inr, ℤ}
 use Rattle.std.specs.Prelude.{◌-◌, slice_get, slice_set, map, nat_eq, nat_lt, nat_le, codes}
-use Rattle.std.specs.List.{AllByRecursion}
+use Rattle.std.specs.List.{AllByRecursion, sum_by}
 use Rattle.std.proofs.lemmas.Bool.{ltb-true, leb-true}
+use Rattle.jm_program.specs.Descriptors.{slots}
 use Rattle.jm_program.specs.declared.class.ClassParts.{ClassParts}
 use Rattle.jm_program.specs.declared.descriptor.FieldType.{FieldType}
 use Rattle.jm_program.specs.declared.instruction.operation.OperandType.{OperandType}
@@ -19,6 +20,7 @@ use Rattle.jm_world.specs.Frames.{Frame, method_frame}
 use Rattle.jm_world.specs.World.{World, Thread, Monitor, with_thread, state_of, reach_cells}
 use Rattle.jm_world.specs.Next.{Next, goes, faults, make, numbers_from, with_objects, make_all, exception, throw}
 use Rattle.jm_world.specs.Here.{with_frames, with_room, go_on_in, throws, push, push_new, with_operand, with_int, with_reference, with_arguments, with_object, with_depth, push_frame, is_ready, all_frames, when_initialized}
+use Rattle.jm_world.specs.Invocation.{locals_of}
 use Rattle.jm_world.specs.Monitors.{monitor_in, recounted, without_monitor, entered, enter, enter_if, left_in, leave, leave_if}
 use Rattle.jm_world.specs.ArraysOfArrays.{first_made, push_all_new}
 use Rattle.jm_world.proofs.Fitting.{grown, with_monitors}
@@ -26,6 +28,8 @@ use Rattle.jm_world.specs.SideBySide.{Values, ints, longs, nulls, refs, Lists, n
 use Rattle.jm_world.specs.TwoWorlds.{Two, left, right}
 use Rattle.jm_world.proofs.WhatComes.{Alike, IsNew, Grown, AreNew, Place, Stands, Locks, stay, again, left_one, left_last, for_monitor, Changes, same, locks, Comes, stopped, blocked, Turned, went, makes, fails, starts, Setting, here, here'}
 use Rattle.jm_world.proofs.WhatComes as two
+use Rattle.jm_world.proofs.Arguments.{one_more}
+use Rattle.jm_world.proofs.Leaving.{is_thrown, Thrown, by_row, Leaves, as_before, raised}
 use Rattle.jm_world.proofs.Turning.{Turn, goes_on, moved, needed, raises}
 use Rattle.jm_world.specs.declared.class_state.ClassState.{ClassState}
 
@@ -218,18 +222,18 @@ module _ (R : ℕ → ℕ → Type 0) (e : Setting R) where
   framed_new n fs gs c x l = record { object = refl; other = refl; frames = l; pending = option_to (λ k j r. inl r) e.running.pending; ending = e.running.ending; turn = x }
 
   pub frames_both : (v v' : World) (fs gs : List Frame) (c : Option (List ℕ × ClassState)) → Turn w e.number e.thread c (record e.thread { frames = fs }) → Changes R e.worlds e.number c v v' → Lists (Frames R) fs gs → Both (goes (with_frames v e.number e.thread fs)) (goes (with_frames v' e.number e.thread' gs))
-  frames_both v v' fs gs c x h l = went c h (framed fs gs c x l)
+  frames_both v v' fs gs c x h l = went c h (framed fs gs c x l) as_before
 
   -- with other frames and a new exception
   abbrev thrown : Thread → World → ℕ → Next
   thrown t made k = goes (with_thread made e.number (record t { pending = Some k }))
 
-  pub throw_both : (class : List ℕ) (fs gs : List Frame) → ((k : ℕ) → Turn w e.number e.thread None (record e.thread { frames = fs; pending = Some k })) → Lists (Frames R) fs gs → Both (throw w e.number (record e.thread { frames = fs }) class) (throw w' e.number (record e.thread' { frames = gs }) class)
-  throw_both class fs gs x l = make_both (exception class) (thrown (record e.thread { frames = fs })) (thrown (record e.thread' { frames = gs })) (makes (exception class ∷ []) (tt, tt)
-      (record { object = refl; other = refl; frames = frames_old 1 l; pending = both (new_one 1 (omega arith)); ending = e.running.ending; turn = x (length w.heap) }))
+  pub throw_both : (class : List ℕ) (fs gs : List Frame) → Thrown e.worlds.program class → ((k : ℕ) → Turn w e.number e.thread None (record e.thread { frames = fs; pending = Some k })) → Lists (Frames R) fs gs → Both (throw w e.number (record e.thread { frames = fs }) class) (throw w' e.number (record e.thread' { frames = gs }) class)
+  throw_both class fs gs z x l = make_both (exception class) (thrown (record e.thread { frames = fs })) (thrown (record e.thread' { frames = gs })) (makes (exception class ∷ []) (tt, tt)
+      (record { object = refl; other = refl; frames = frames_old 1 l; pending = both (new_one 1 (omega arith)); ending = e.running.ending; turn = x (length w.heap) }) (raised class z))
 
-  pub throws_both : (q : Place) (class : List ℕ) → Both (throws (here e q) class) (throws (here' e q) class)
-  throws_both q class = throw_both class e.thread.frames e.thread'.frames raises e.running.frames
+  pub throws_both : (q : Place) (class : List ℕ) → is_thrown class ≡ true → Both (throws (here e q) class) (throws (here' e q) class)
+  throws_both q class z = throw_both class e.thread.frames e.thread'.frames (by_row z) raises e.running.frames
 
   -- the top frame
   pub top : (q : Place) (h : Stands R e q) (at : ℕ) (ls ls' : List (Option Value)) (s s' : List Value) → Lists (Options (Values R)) ls ls' → Lists (Values R) s s'
@@ -237,26 +241,26 @@ module _ (R : ℕ → ℕ → Type 0) (e : Setting R) where
   top q h at ls ls' s s' l r = more (methods (acts l r) h.monitor) h.below
 
   pub go_on_both : (q : Place) (h : Stands R e q) (v v' : World) (s s' : List Value) → Changes R e.worlds e.number None v v' → Rest R (units q.stack) s s' → Both (go_on_in (here e q) v s) (go_on_in (here' e q) v' s')
-  go_on_both q h v v' s s' c r = frames_both v v' _ _ None (goes_on _ h.its (moved s (λ b. omega (arith, b, r.1)))) c (top q h (q.at + 1) q.locals q.locals' s s' h.locals r.0)
+  go_on_both q h v v' s s' c r = frames_both v v' _ _ None (goes_on _ h.its (moved s (λ b. omega (arith, b, r.1)) h.stands)) c (top q h (q.at + 1) q.locals q.locals' s s' h.locals r.0)
 
   pub room_both : (q : Place) (s s' : List Value) (x x' : Next) → Lists (Values R) s s' → (units s ≤ q.max_stack → Both x x') → Both (with_room (here e q) s x) (with_room (here' e q) s' x')
   room_both q s s' x x' r f = same_told (nat_le (units s) q.max_stack) _ (ap (λ n. nat_le n q.max_stack) (units_same r)) _ _ _ _ (λ d. f (leb-true (units s) q.max_stack d)) stopped
 
   pub push_both : (q : Place) (h : Stands R e q) (v v' : Value) (s s' : List Value) → Values R v v' → Lists (Values R) s s' → Both (push (here e q) v s) (push (here' e q) v' s')
   push_both q h v v' s s' a r = room_both q (v ∷ s) (v' ∷ s') _ _ (more a r)
-      (λ d. frames_both w w' _ _ None (goes_on _ h.its (moved (v ∷ s) (λ b. d))) same (top q h (q.at + 1) q.locals q.locals' (v ∷ s) (v' ∷ s') h.locals (more a r)))
+      (λ d. frames_both w w' _ _ None (goes_on _ h.its (moved (v ∷ s) (λ b. d) h.stands)) same (top q h (q.at + 1) q.locals q.locals' (v ∷ s) (v' ∷ s') h.locals (more a r)))
 
   -- with new objects and a result
-  pub made_both : (q : Place) (h : Stands R e q) (os : List Object) (v v' : Value) (s s' : List Value) → units (v ∷ s) ≤ q.max_stack → AreNew e.worlds os → Values (New (length os)) v v' → Lists (Values R) s s'
+  pub made_both : (q : Place) (h : Stands R e q) (os : List Object) (v v' : Value) (s s' : List Value) → units (v ∷ s) ≤ q.max_stack → AreNew e.worlds os → Leaves w e.thread.pending os e.thread.pending → Values (New (length os)) v v' → Lists (Values R) s s'
       → Both (go_on_in (here e q) (with_objects w os) (v ∷ s)) (go_on_in (here' e q) (with_objects w' os) (v' ∷ s'))
-  made_both q h os v v' s s' d n a r = makes os n (framed_new (length os) _ _ None (goes_on _ h.its (moved (v ∷ s) (λ b. d)))
-      (more (methods (acts (lists_to (λ x y o. option_to (value_old (length os)) o) h.locals) (more a (lists_to (value_old (length os)) r))) (option_to (λ k j i. inl i) h.monitor)) (frames_old (length os) h.below)))
+  made_both q h os v v' s s' d n z a r = makes os n (framed_new (length os) _ _ None (goes_on _ h.its (moved (v ∷ s) (λ b. d) h.stands))
+      (more (methods (acts (lists_to (λ x y o. option_to (value_old (length os)) o) h.locals) (more a (lists_to (value_old (length os)) r))) (option_to (λ k j i. inl i) h.monitor)) (frames_old (length os) h.below))) z
 
-  pub push_new_both : (q : Place) (h : Stands R e q) (o : Object) (s s' : List Value) → AreNew e.worlds (o ∷ []) → Lists (Values R) s s' → Both (push_new (here e q) o s) (push_new (here' e q) o s')
-  push_new_both q h o s s' n r = room_both q (Null ∷ s) (Null ∷ s') _ _ (more nulls r) (λ d. make_both o (λ made k. go_on_in (here e q) made (Ref k ∷ s)) (λ made k. go_on_in (here' e q) made (Ref k ∷ s')) (made_both q h (o ∷ []) _ _ s s' d n (refs (new_one 1 (omega arith))) r))
+  pub push_new_both : (q : Place) (h : Stands R e q) (o : Object) (s s' : List Value) → AreNew e.worlds (o ∷ []) → Leaves w e.thread.pending (o ∷ []) e.thread.pending → Lists (Values R) s s' → Both (push_new (here e q) o s) (push_new (here' e q) o s')
+  push_new_both q h o s s' n z r = room_both q (Null ∷ s) (Null ∷ s') _ _ (more nulls r) (λ d. make_both o (λ made k. go_on_in (here e q) made (Ref k ∷ s)) (λ made k. go_on_in (here' e q) made (Ref k ∷ s')) (made_both q h (o ∷ []) _ _ s s' d n z (refs (new_one 1 (omega arith))) r))
 
-  pub push_all_new_both : (q : Place) (h : Stands R e q) (os : List Object) (s s' : List Value) → AreNew e.worlds os → Lists (Values R) s s' → Both (push_all_new (here e q) os s) (push_all_new (here' e q) os s')
-  push_all_new_both q h os s s' n r = room_both q (Null ∷ s) (Null ∷ s') _ _ (more nulls r) (λ d. make_all_both os (λ made ks. go_on_in (here e q) made (first_made ks ∷ s)) (λ made ks. go_on_in (here' e q) made (first_made ks ∷ s')) (made_both q h os _ _ s s' (omega (arith, d, one_unit (numbers_from (length w.heap) os))) n (first os) r))
+  pub push_all_new_both : (q : Place) (h : Stands R e q) (os : List Object) (s s' : List Value) → AreNew e.worlds os → Leaves w e.thread.pending os e.thread.pending → Lists (Values R) s s' → Both (push_all_new (here e q) os s) (push_all_new (here' e q) os s')
+  push_all_new_both q h os s s' n z r = room_both q (Null ∷ s) (Null ∷ s') _ _ (more nulls r) (λ d. make_all_both os (λ made ks. go_on_in (here e q) made (first_made ks ∷ s)) (λ made ks. go_on_in (here' e q) made (first_made ks ∷ s')) (made_both q h os _ _ s s' (omega (arith, d, one_unit (numbers_from (length w.heap) os))) n z (first os) r))
     where
       one_unit : (ks : List ℕ) → units (first_made ks ∷ s) ≡ units (Null ∷ s)
       one_unit [] = refl
@@ -267,12 +271,15 @@ module _ (R : ℕ → ℕ → Type 0) (e : Setting R) where
       first (o ∷ os) = refs (new_one (length (o ∷ os)) (omega arith))
 
   -- operands
-  pub operand_both : (n : ℕ) (type : OperandType) (s s' : List Value) (go go' : Value → List Value → Next) → Rest R n s s' → ((v v' : Value) (r r' : List Value) → Values R v v' → Popped R n r r' → Both (go v r) (go' v' r')) → Both (with_operand type s go) (with_operand type s' go')
-  operand_both n type s s' go go' l f = by s s' l.0 l.1
+  operand_told : (n : ℕ) (type : OperandType) (s s' : List Value) (go go' : Value → List Value → Next) → Rest R n s s' → ((v v' : Value) (r r' : List Value) → is_of type v ≡ true → Values R v v' → Popped R n r r' → Both (go v r) (go' v' r')) → Both (with_operand type s go) (with_operand type s' go')
+  operand_told n type s s' go go' l f = by s s' l.0 l.1
     where
       by : (s s' : List Value) → Lists (Values R) s s' → units s ≤ n → Both (with_operand type s go) (with_operand type s' go')
       by _ _ none b = stopped
-      by _ _ (more a m) b = if_same (is_of type _) _ (type_same type a) _ _ _ _ (f _ _ _ _ a (popped n _ _ _ m b)) stopped
+      by _ _ (more a m) b = same_told (is_of type _) _ (type_same type a) _ _ _ _ (λ y. f _ _ _ _ y a (popped n _ _ _ m b)) stopped
+
+  pub operand_both : (n : ℕ) (type : OperandType) (s s' : List Value) (go go' : Value → List Value → Next) → Rest R n s s' → ((v v' : Value) (r r' : List Value) → Values R v v' → Popped R n r r' → Both (go v r) (go' v' r')) → Both (with_operand type s go) (with_operand type s' go')
+  operand_both n type s s' go go' l f = operand_told n type s s' go go' l (λ v v' r r' y a m. f v v' r r' a m)
 
   pub int_both : (n : ℕ) (s s' : List Value) (go go' : ℤ → List Value → Next) → Rest R n s s' → ((i : ℤ) (r r' : List Value) → Popped R n r r' → Both (go i r) (go' i r')) → Both (with_int s go) (with_int s' go')
   int_both n s s' go go' l f = by s s' l.0 l.1
@@ -294,14 +301,14 @@ module _ (R : ℕ → ℕ → Type 0) (e : Setting R) where
       by _ _ (more nulls m) b = f None None _ _ neither (popped n Null _ _ m b)
       by _ _ (more (refs {k = k} r) m) b = f _ _ _ _ (both r) (popped n (Ref k) _ _ m b)
 
-  pub arguments_both : (n : ℕ) (ts : List FieldType) (a a' s s' : List Value) (go go' : List Value → List Value → Next) → Lists (Values R) a a' → Rest R n s s'
-      → ((vs vs' r r' : List Value) → Lists (Values R) vs vs' → Rest R n r r' → Both (go vs r) (go' vs' r')) → Both (with_arguments ts a s go) (with_arguments ts a' s' go')
-  arguments_both n [] a a' s s' go go' b l f = f _ _ _ _ b l
-  arguments_both n (t ∷ ts) a a' s s' go go' b l f = operand_both n (operand_of t) s s' _ _ l (λ v v' r r' c m. arguments_both n ts (v ∷ a) (v' ∷ a') r r' go go' (more c b) (less n r r' m) f)
+  pub arguments_both : (n m : ℕ) (ts : List FieldType) (a a' s s' : List Value) (go go' : List Value → List Value → Next) → length (locals_of a) + sum_by slots ts ≤ m → Lists (Values R) a a' → Rest R n s s'
+      → ((vs vs' r r' : List Value) → length (locals_of vs) ≤ m → Lists (Values R) vs vs' → Rest R n r r' → Both (go vs r) (go' vs' r')) → Both (with_arguments ts a s go) (with_arguments ts a' s' go')
+  arguments_both n m [] a a' s s' go go' z b l f = f _ _ _ _ (omega (arith, z)) b l
+  arguments_both n m (t ∷ ts) a a' s s' go go' z b l f = operand_told n (operand_of t) s s' _ _ l (λ v v' r r' y c i. arguments_both n m ts (v ∷ a) (v' ∷ a') r r' go go' (one_more t ts v a m y z) (more c b) (less n r r' i) f)
 
   pub object_both : (q : Place) (k k' : Option ℕ) (go go' : ℕ → Object → Next) → Options R k k'
       → ((i j : ℕ) (o o' : Object) → R i j → slice_get w.heap i ≡ Some o → slice_get w'.heap j ≡ Some o' → Objects R o o' → Both (go i o) (go' j o')) → Both (with_object (here e q) k go) (with_object (here' e q) k' go')
-  object_both q _ _ go go' neither f = throws_both q (codes "java/lang/NullPointerException")
+  object_both q _ _ go go' neither f = throws_both q (codes "java/lang/NullPointerException") refl
   object_both q _ _ go go' (both {x = i} {y = j} r) f = by (slice_get w.heap i) (slice_get w'.heap j) refl refl (e.alike.objects i j r)
     where
       by : (o o' : Option Object) → slice_get w.heap i ≡ o → slice_get w'.heap j ≡ o' → Options (Objects R) o o' → Both (elim o [ None ↦ faults WrongKind | Some o ↦ go i o ]) (elim o' [ None ↦ faults WrongKind | Some o ↦ go' j o ])
@@ -309,7 +316,7 @@ module _ (R : ℕ → ℕ → Type 0) (e : Setting R) where
       by _ _ a b (both x) = f i j _ _ r a b x
 
   pub depth_both : (fs fs' : List Frame) (x x' : Next) → Lists (Frames R) fs fs' → (length fs < 512 → Both x x') → Both (with_depth w e.number e.thread fs x) (with_depth w' e.number e.thread' fs' x')
-  depth_both fs fs' x x' l f = same_told (nat_lt (length fs) 512) _ (ap (λ n. nat_lt n 512) (lists_long l)) _ _ _ _ (λ d. f (ltb-true (length fs) 512 d)) (throw_both (codes "java/lang/StackOverflowError") e.thread.frames e.thread'.frames raises e.running.frames)
+  depth_both fs fs' x x' l f = same_told (nat_lt (length fs) 512) _ (ap (λ n. nat_lt n 512) (lists_long l)) _ _ _ _ (λ d. f (ltb-true (length fs) 512 d)) (throw_both (codes "java/lang/StackOverflowError") e.thread.frames e.thread'.frames (by_row refl) raises e.running.frames)
 
   pub push_frame_both : (fs fs' : List Frame) (g g' : Frame) → (length fs < 512 → Turn w e.number e.thread None (record e.thread { frames = g ∷ fs })) → Lists (Frames R) fs fs' → Frames R g g' → Both (push_frame w e.number e.thread fs g) (push_frame w' e.number e.thread' fs' g')
   push_frame_both fs fs' g g' x l a = depth_both fs fs' _ _ l (λ d. frames_both w w' _ _ None (x d) same (more a l))
@@ -321,7 +328,7 @@ module _ (R : ℕ → ℕ → Type 0) (e : Setting R) where
   here_frames q h = top q h q.at q.locals q.locals' q.stack q.stack' h.locals h.stack
 
   pub initialized_both : (q : Place) (h : Stands R e q) (class : List ℕ) (x x' : Next) → Both x x' → Both (when_initialized (here e q) class x) (when_initialized (here' e q) class x')
-  initialized_both q h class x x' f = if_both (is_ready (state_of w class) e.number) _ _ _ _ f (push_frame_both _ _ _ _ (λ d. goes_on _ h.its (needed class d)) (here_frames q h) initializations)
+  initialized_both q h class x x' f = if_both (is_ready (state_of w class) e.number) _ _ _ _ f (push_frame_both _ _ _ _ (λ d. goes_on _ h.its (needed class d h.stands)) (here_frames q h) initializations)
 
   -- monitors
   pub enter_both : (k j : ℕ) (go go' : World → Next) → R k j → ((ms ms' : List Monitor) → Locks R e.worlds e.number ms ms' → Both (go (with_monitors w ms)) (go' (with_monitors w' ms'))) → Both (enter w e.number k go) (enter w' e.number j go')
