@@ -6,6 +6,7 @@ pub mod Fitting
 pub mod KeptByEvents
 pub mod Leaving
 pub mod Turning
+pub mod Asking
 pub mod WhatComes
 pub mod LocalsOfCalls
 pub mod Arguments

@@ -1,5 +1,5 @@
 -- The rows of the instruction table, in two worlds beside one another.
-use Rattle.std.proofs.Common.{◌≡◌, ℕ, zero, suc, ◌+◌, ◌≤◌, List, [], ◌∷◌, ◌++◌, Option, Some, None, Bool, true, false, refl, subst, length, ap, arith, ℤ, pos, negsuc}
+use Rattle.std.proofs.Common.{◌≡◌, ℕ, zero, suc, ◌+◌, ◌≤◌, List, [], ◌∷◌, ◌++◌, Option, Some, None, Bool, true, false, refl, sym, subst, length, drop, ap, ◌∙◌, arith, ℤ, pos, negsuc}
 use Rattle.std.specs.Int.{w32, cast_unsigned}
 use Rattle.std.specs.Prelude.{◌-◌, ◌%◌, ◌^◌, slice_get, reverse, nat_lt, nat_le, codes}
 use Rattle.std.specs.List.{AllByRecursion, sum_by}
@@ -76,7 +76,9 @@ use Rattle.jm_program.specs.declared.instruction.plain.Plain.{Plain}
 use Rattle.jm_values.specs.Activation.{Activation}
 use Rattle.jm_values.specs.PlainRows.{row_plain}
 use Rattle.std.proofs.lemmas.Bool.{leb-true}
-use Rattle.jm_world.proofs.WordsSideBySide.{Rest, Popped, less, all_of, lists_long, got, joined, units_same, narrowed, defaults, array_is_new, instance_is_new, Both, if_both, if_told, if_same, same_told, option_both, some_both, framed, frames_both, throw_both, throws_both, top, go_on_both, push_both, push_new_both, push_all_new_both, operand_both, int_both, reference_both, arguments_both, object_both, depth_both, initialized_both, enter_both, enter_if_both, leave_both, leave_if_both}
+use Rattle.std.proofs.lemmas.List.{length-reverse}
+use Rattle.jm_world.proofs.Asking.{Asks, by_monitorenter, by_call}
+use Rattle.jm_world.proofs.WordsSideBySide.{Rest, Popped, less, all_of, lists_long, got, joined, units_same, narrowed, defaults, array_is_new, instance_is_new, Both, if_both, if_told, if_same, same_told, option_both, some_both, framed, frames_both, throw_both, throws_both, top, go_on_both, push_both, push_new_both, push_all_new_both, operand_both, int_both, reference_both, arguments_both, object_both, referred_both, depth_both, initialized_both, enter_both, enter_if_both, leave_both, leave_if_both}
 
 -- arguments
 argument_alike : {R : ℕ → ℕ → Type 0} (v u : Value) → Values R v u → Lists (Options (Values R)) (argument_locals v) (argument_locals u)
@@ -105,6 +107,23 @@ monitor_alike {R = R} m k j r = by (is_synchronized m.flags)
     by : (b : Bool) → Options R (elim b as (λ _. Option ℕ) [ true ↦ Some k | false ↦ None ]) (elim b as (λ _. Option ℕ) [ true ↦ Some j | false ↦ None ])
     by true = both r
     by false = neither
+
+-- the monitor of a method is that of its receiver
+pub monitor_is : (m : Method) (k i : ℕ) → monitor_of m k ≡ Some i → k ≡ i
+monitor_is m k i = by (is_synchronized m.flags)
+  where
+    by : (b : Bool) → (elim b as (λ _. Option ℕ) [ true ↦ Some k | false ↦ None ]) ≡ Some i → k ≡ i
+    by true e = cc
+    by false e = cc
+
+-- the receiver lies below the arguments
+got_below : (n : ℕ) (s : List Value) → slice_get s n ≡ slice_get (drop n s) 0
+got_below zero s = refl
+got_below (suc n) [] = refl
+got_below (suc n) (v ∷ s) = got_below n s
+
+receiver_at : (ts : List FieldType) (s t : List Value) (v : Value) → drop (length (reverse ts)) s ≡ t → slice_get t 0 ≡ Some v → slice_get s (length ts) ≡ Some v
+receiver_at ts s t v d e = got_below (length ts) s ∙ ap (λ n. slice_get (drop n s) 0) (sym (length-reverse ts)) ∙ ap (λ s. slice_get s 0) d ∙ e
 
 lengths_alike : {R : ℕ → ℕ → Type 0} (n m : ℕ) → n ≡ m → Values R (Int (pos n)) (Int (pos m))
 lengths_alike {R = R} n m d = subst (λ m. Values R (Int (pos n)) (Int (pos m))) d ints
@@ -212,14 +231,8 @@ of_chars m h vs s chars = elim (same_text m.name (codes "length")) [ true ↦ pu
 abbrev print_chars : (List ℕ → Next) → List Value → Next
 print_chars go chars = go (utf8_text (units_of chars))
 
-abbrev receive_in : (ℕ → Object → List Value → List Value → Next) → List Value → List Value → ℕ → Object → Next
-receive_in go vs s k o = go k o vs s
-
-abbrev receive_from : Here → (ℕ → Object → List Value → List Value → Next) → List Value → Option ℕ → List Value → Next
-receive_from h go vs r s = with_object h r (receive_in go vs s)
-
 abbrev receive : Here → (ℕ → Object → List Value → List Value → Next) → List Value → List Value → Next
-receive h go vs below = with_reference below (receive_from h go vs)
+receive h go vs below = with_reference below (λ r s. with_object h r (λ k o. go k o vs s))
 
 abbrev virtual_of : List ℕ → MethodRef → Here → ℕ → Object → List Value → List Value → Next
 virtual_of class m h k o vs s = elim (is_of_class h o class) [ false ↦ faults WrongKind | true ↦ call_found h (select h.world.program (class_of o.type) m.name m.descriptor) k vs s ]
@@ -248,11 +261,8 @@ throw_in h k o = elim (is_kind_of h.world o.type throwable_class) [ true ↦ goe
 abbrev throw_from : Here → Option ℕ → List Value → Next
 throw_from h r s = with_object h r (throw_in h)
 
-abbrev enter_in : Here → List Value → ℕ → Object → Next
-enter_in h s k o = enter h.world h.number k (λ w. go_on_in h w s)
-
-abbrev enter_from : Here → Option ℕ → List Value → Next
-enter_from h r s = with_object h r (enter_in h s)
+abbrev enter_in : Here → ℕ → Object → List Value → Next
+enter_in h k o s = enter h.world h.number k (λ w. go_on_in h w s)
 
 abbrev exit_in : Here → List Value → ℕ → Object → Next
 exit_in h s k o = elim (leave h.world h.number k) [ None ↦ throws h (codes "java/lang/IllegalMonitorStateException") | Some w ↦ go_on_in h w s ]
@@ -463,59 +473,66 @@ module _ (R : ℕ → ℕ → Type 0) (e : Setting R) where
   calling_alike : (q : Place) → Stands R e q → (s s' : List Value) → Rest R (units q.stack) s s' → Lists (Frames R) (calling (here e q) s) (calling (here' e q) s')
   calling_alike q h s s' l = top R e q h q.at q.locals q.locals' s s' h.locals l.0
 
-  call_code_both : (q : Place) → Stands R e q → (found : FoundMethod) (code : Code) (vs us : List Value) (o o' : Option ℕ) (s s' : List Value) → FoundFor e.worlds.program found (length (locals_of vs)) → found.method.code ≡ Some code → Lists (Values R) vs us → Options R o o' → Rest R (units q.stack) s s' → Both R e (call_code (here e q) found code vs o s) (call_code (here' e q) found code us o' s')
-  call_code_both q h found code vs us o o' s s' x y n r l = depth_both R e _ _ _ _ (calling_alike q h s s' l)
-      (λ d. enter_if_both R e o o' (begun found code vs o (here e q) s) (begun found code us o' (here' e q) s') r (λ ms ms' z. frames_both R e (with_monitors (left e.worlds) ms) (with_monitors (right e.worlds) ms') _ _ None (goes_on _ h.its (called s vs found code o (λ b. omega (arith, b, l.1)) d x.0 y x.1 h.stands)) (locks z) (more (methods (called_alike code vs us n) r) (calling_alike q h s s' l))))
+  call_code_both : (q : Place) → Stands R e q → (found : FoundMethod) (code : Code) (vs us : List Value) (o o' : Option ℕ) (s s' : List Value) → ((k : ℕ) → o ≡ Some k → Asks e.worlds.program e.thread.frames k) → FoundFor e.worlds.program found (length (locals_of vs)) → found.method.code ≡ Some code → Lists (Values R) vs us → Options R o o' → Rest R (units q.stack) s s' → Both R e (call_code (here e q) found code vs o s) (call_code (here' e q) found code us o' s')
+  call_code_both q h found code vs us o o' s s' a x y n r l = depth_both R e _ _ _ _ (calling_alike q h s s' l)
+      (λ d. enter_if_both R e o o' (begun found code vs o (here e q) s) (begun found code us o' (here' e q) s') a r (λ ms ms' z. frames_both R e (with_monitors (left e.worlds) ms) (with_monitors (right e.worlds) ms') _ _ None (goes_on _ h.its (called s vs found code o (λ b. omega (arith, b, l.1)) d x.0 y x.1 h.stands)) (locks z) (more (methods (called_alike code vs us n) r) (calling_alike q h s s' l))))
 
-  call_instance_both : (q : Place) → Stands R e q → (found : FoundMethod) (k j : ℕ) (vs us s s' : List Value) (code : Option Code) → FoundFor e.worlds.program found (suc (length (locals_of vs))) → found.method.code ≡ code → R k j → Lists (Values R) vs us → Rest R (units q.stack) s s' → Both R e (call_instance (here e q) found k vs s code) (call_instance (here' e q) found j us s' code)
-  call_instance_both q h found k j vs us s s' None x y r n l = built_in_both q h (name_of_method found) k j vs us s s' r n l
-  call_instance_both q h found k j vs us s s' (Some code) x y r n l = call_code_both q h found code (Ref k ∷ vs) (Ref j ∷ us) _ _ s s' x y (more (refs r) n) (monitor_alike found.method k j r) l
+  call_instance_both : (q : Place) → Stands R e q → (found : FoundMethod) (k j : ℕ) (vs us s s' : List Value) (code : Option Code) → Asks e.worlds.program e.thread.frames k → FoundFor e.worlds.program found (suc (length (locals_of vs))) → found.method.code ≡ code → R k j → Lists (Values R) vs us → Rest R (units q.stack) s s' → Both R e (call_instance (here e q) found k vs s code) (call_instance (here' e q) found j us s' code)
+  call_instance_both q h found k j vs us s s' None a x y r n l = built_in_both q h (name_of_method found) k j vs us s s' r n l
+  call_instance_both q h found k j vs us s s' (Some code) a x y r n l = call_code_both q h found code (Ref k ∷ vs) (Ref j ∷ us) _ _ s s' (λ i c. subst (Asks e.worlds.program e.thread.frames) (monitor_is found.method k i c) a) x y (more (refs r) n) (monitor_alike found.method k j r) l
 
-  call_found_both : (q : Place) → Stands R e q → (found : Option FoundMethod) (k j : ℕ) (vs us s s' : List Value) → ((f : FoundMethod) → found ≡ Some f → FoundFor e.worlds.program f (suc (length (locals_of vs)))) → R k j → Lists (Values R) vs us → Rest R (units q.stack) s s' → Both R e (call_found (here e q) found k vs s) (call_found (here' e q) found j us s')
-  call_found_both q h None k j vs us s s' x r n l = throws_both R e q (codes "java/lang/AbstractMethodError") refl
-  call_found_both q h (Some found) k j vs us s s' x r n l = if_both R e (is_abstract found.method.flags) _ _ _ _ (throws_both R e q (codes "java/lang/AbstractMethodError") refl) (call_instance_both q h found k j vs us s s' found.method.code (x found refl) refl r n l)
+  call_found_both : (q : Place) → Stands R e q → (found : Option FoundMethod) (k j : ℕ) (vs us s s' : List Value) → Asks e.worlds.program e.thread.frames k → ((f : FoundMethod) → found ≡ Some f → FoundFor e.worlds.program f (suc (length (locals_of vs)))) → R k j → Lists (Values R) vs us → Rest R (units q.stack) s s' → Both R e (call_found (here e q) found k vs s) (call_found (here' e q) found j us s')
+  call_found_both q h None k j vs us s s' a x r n l = throws_both R e q (codes "java/lang/AbstractMethodError") refl
+  call_found_both q h (Some found) k j vs us s s' a x r n l = if_both R e (is_abstract found.method.flags) _ _ _ _ (throws_both R e q (codes "java/lang/AbstractMethodError") refl) (call_instance_both q h found k j vs us s s' found.method.code a (x found refl) refl r n l)
 
-  receiver_both : (q : Place) → Stands R e q → (m : MethodRef) (go go' : ℕ → Object → List Value → List Value → Next)
-      → ((k j : ℕ) (o b : Object) (vs us s s' : List Value) → length (locals_of vs) ≤ argument_slots m.descriptor → R k j → Objects R o b → Lists (Values R) vs us → Rest R (units q.stack) s s' → Both R e (go k o vs s) (go' j b us s')) → Both R e (with_receiver (here e q) m go) (with_receiver (here' e q) m go')
-  receiver_both q h m go go' g = arguments_both R e (units q.stack) (argument_slots m.descriptor) (reverse m.descriptor.parameters) [] [] _ _ (receive (here e q) go) (receive (here' e q) go') (from_none m.descriptor) none (all_of R e q h)
-      (λ vs us t t' z n f. reference_both R e (units q.stack) t t' (receive_from (here e q) go vs) (receive_from (here' e q) go' us) f
-      (λ i i' s s' r l. object_both R e q i i' (receive_in go vs s) (receive_in go' us s') r (λ k j o b a c d x. g k j o b vs us s s' z a x n (less (units q.stack) s s' l))))
+  -- its receiver's monitor
+  abbrev AskedBy : Place → MethodRef → Type 0
+  AskedBy q m = (k : ℕ) → slice_get q.stack (length m.descriptor.parameters) ≡ Some (Ref k) → Asks e.worlds.program e.thread.frames k
 
-  invoke_virtual_both : (q : Place) → Stands R e q → (class : List ℕ) (m : MethodRef) → Both R e (invoke_virtual (here e q) class m) (invoke_virtual (here' e q) class m)
-  invoke_virtual_both q h class m = receiver_both q h m (virtual_of class m (here e q)) (virtual_of class m (here' e q)) by
+  asked_by : (q : Place) → Stands R e q → (op : InvokeOp) (m : MethodRef) → (op ≡ invoke.Static → ⊥) → instruction_in (method_named e.worlds.program q.method) q.at ≡ Some (instr.Invoke op m) → AskedBy q m
+  asked_by q h op m x c k d = subst (λ fs. Asks e.worlds.program fs k) (sym h.its) (by_call op m x c d)
+
+  receiver_both : (q : Place) → Stands R e q → (m : MethodRef) (go go' : ℕ → Object → List Value → List Value → Next) → AskedBy q m
+      → ((k j : ℕ) (o b : Object) (vs us s s' : List Value) → Asks e.worlds.program e.thread.frames k → length (locals_of vs) ≤ argument_slots m.descriptor → R k j → Objects R o b → Lists (Values R) vs us → Rest R (units q.stack) s s' → Both R e (go k o vs s) (go' j b us s')) → Both R e (with_receiver (here e q) m go) (with_receiver (here' e q) m go')
+  receiver_both q h m go go' a g = arguments_both R e (units q.stack) (argument_slots m.descriptor) (reverse m.descriptor.parameters) [] [] _ _ (receive (here e q) go) (receive (here' e q) go') (from_none m.descriptor) none (all_of R e q h)
+      (λ vs us t t' y z n f. referred_both R e q (units q.stack) t t' (λ k o s. go k o vs s) (λ k o s. go' k o us s) f
+      (λ k j o b s s' d r x l. g k j o b vs us s s' (a k (receiver_at m.descriptor.parameters q.stack t (Ref k) y d)) z r x n (less (units q.stack) s s' l)))
+
+  invoke_virtual_both : (q : Place) → Stands R e q → (class : List ℕ) (m : MethodRef) → AskedBy q m → Both R e (invoke_virtual (here e q) class m) (invoke_virtual (here' e q) class m)
+  invoke_virtual_both q h class m a = receiver_both q h m (virtual_of class m (here e q)) (virtual_of class m (here' e q)) a by
     where
-      by : (k j : ℕ) (o b : Object) (vs us s s' : List Value) → length (locals_of vs) ≤ argument_slots m.descriptor → R k j → Objects R o b → Lists (Values R) vs us → Rest R (units q.stack) s s' → Both R e (virtual_of class m (here e q) k o vs s) (virtual_of class m (here' e q) j b us s')
-      by k j o b vs us s s' z r (objects {type = type} {vs = xs} x) n l = if_both R e (is_of_class (here e q) (record { type = type; values = xs }) class) _ _ _ _ (call_found_both q h (select e.worlds.program (class_of type) m.name m.descriptor) k j vs us s s' (λ f c. (by_class (class_of type) m.name m.descriptor c, omega (arith, z))) r n l) stopped
+      by : (k j : ℕ) (o b : Object) (vs us s s' : List Value) → Asks e.worlds.program e.thread.frames k → length (locals_of vs) ≤ argument_slots m.descriptor → R k j → Objects R o b → Lists (Values R) vs us → Rest R (units q.stack) s s' → Both R e (virtual_of class m (here e q) k o vs s) (virtual_of class m (here' e q) j b us s')
+      by k j o b vs us s s' a z r (objects {type = type} {vs = xs} x) n l = if_both R e (is_of_class (here e q) (record { type = type; values = xs }) class) _ _ _ _ (call_found_both q h (select e.worlds.program (class_of type) m.name m.descriptor) k j vs us s s' a (λ f c. (by_class (class_of type) m.name m.descriptor c, omega (arith, z))) r n l) stopped
 
-  invoke_interface_both : (q : Place) → Stands R e q → (class : List ℕ) (m : MethodRef) → Both R e (invoke_interface (here e q) class m) (invoke_interface (here' e q) class m)
-  invoke_interface_both q h class m = receiver_both q h m (interface_of class m (here e q)) (interface_of class m (here' e q)) by
+  invoke_interface_both : (q : Place) → Stands R e q → (class : List ℕ) (m : MethodRef) → AskedBy q m → Both R e (invoke_interface (here e q) class m) (invoke_interface (here' e q) class m)
+  invoke_interface_both q h class m a = receiver_both q h m (interface_of class m (here e q)) (interface_of class m (here' e q)) a by
     where
-      by : (k j : ℕ) (o b : Object) (vs us s s' : List Value) → length (locals_of vs) ≤ argument_slots m.descriptor → R k j → Objects R o b → Lists (Values R) vs us → Rest R (units q.stack) s s' → Both R e (interface_of class m (here e q) k o vs s) (interface_of class m (here' e q) j b us s')
-      by k j o b vs us s s' z r (objects {type = type} {vs = xs} x) n l = if_both R e (is_of_class (here e q) (record { type = type; values = xs }) class) _ _ _ _ (call_found_both q h (select e.worlds.program (class_of type) m.name m.descriptor) k j vs us s s' (λ f c. (by_class (class_of type) m.name m.descriptor c, omega (arith, z))) r n l) (throws_both R e q (codes "java/lang/IncompatibleClassChangeError") refl)
+      by : (k j : ℕ) (o b : Object) (vs us s s' : List Value) → Asks e.worlds.program e.thread.frames k → length (locals_of vs) ≤ argument_slots m.descriptor → R k j → Objects R o b → Lists (Values R) vs us → Rest R (units q.stack) s s' → Both R e (interface_of class m (here e q) k o vs s) (interface_of class m (here' e q) j b us s')
+      by k j o b vs us s s' a z r (objects {type = type} {vs = xs} x) n l = if_both R e (is_of_class (here e q) (record { type = type; values = xs }) class) _ _ _ _ (call_found_both q h (select e.worlds.program (class_of type) m.name m.descriptor) k j vs us s s' a (λ f c. (by_class (class_of type) m.name m.descriptor c, omega (arith, z))) r n l) (throws_both R e q (codes "java/lang/IncompatibleClassChangeError") refl)
 
-  invoke_special_both : (q : Place) → Stands R e q → (class : List ℕ) (m : MethodRef) → instruction_in (method_named e.worlds.program q.method) q.at ≡ Some (instr.Invoke invoke.Special m) → m.class ≡ named.Class class → Both R e (invoke_special (here e q) class m) (invoke_special (here' e q) class m)
-  invoke_special_both q h class m i y = receiver_both q h m (special_of class m (here e q)) (special_of class m (here' e q)) by
+  invoke_special_both : (q : Place) → Stands R e q → (class : List ℕ) (m : MethodRef) → AskedBy q m → instruction_in (method_named e.worlds.program q.method) q.at ≡ Some (instr.Invoke invoke.Special m) → m.class ≡ named.Class class → Both R e (invoke_special (here e q) class m) (invoke_special (here' e q) class m)
+  invoke_special_both q h class m a i y = receiver_both q h m (special_of class m (here e q)) (special_of class m (here' e q)) a by
     where
-      by : (k j : ℕ) (o b : Object) (vs us s s' : List Value) → length (locals_of vs) ≤ argument_slots m.descriptor → R k j → Objects R o b → Lists (Values R) vs us → Rest R (units q.stack) s s' → Both R e (special_of class m (here e q) k o vs s) (special_of class m (here' e q) j b us s')
-      by k j o b vs us s s' z r (objects {type = type} {vs = xs} x) n l = if_both R e (is_of_class (here e q) (record { type = type; values = xs }) class) _ _ _ _ (call_found_both q h (found_special (here e q) class m) k j vs us s s' (λ f c. (by_invokespecial (here e q) class m refl c i y, omega (arith, z))) r n l) stopped
+      by : (k j : ℕ) (o b : Object) (vs us s s' : List Value) → Asks e.worlds.program e.thread.frames k → length (locals_of vs) ≤ argument_slots m.descriptor → R k j → Objects R o b → Lists (Values R) vs us → Rest R (units q.stack) s s' → Both R e (special_of class m (here e q) k o vs s) (special_of class m (here' e q) j b us s')
+      by k j o b vs us s s' a z r (objects {type = type} {vs = xs} x) n l = if_both R e (is_of_class (here e q) (record { type = type; values = xs }) class) _ _ _ _ (call_found_both q h (found_special (here e q) class m) k j vs us s s' a (λ f c. (by_invokespecial (here e q) class m refl c i y, omega (arith, z))) r n l) stopped
 
   call_static_both : (q : Place) → Stands R e q → (found : FoundMethod) (vs us s s' : List Value) (code : Option Code) → FoundFor e.worlds.program found (length (locals_of vs)) → found.method.code ≡ code → Lists (Values R) vs us → Rest R (units q.stack) s s' → Both R e (call_static (here e q) found vs s code) (call_static (here' e q) found us s' code)
   call_static_both q h found vs us s s' None x y n l = stopped
-  call_static_both q h found vs us s s' (Some code) x y n l = call_code_both q h found code vs us None None s s' x y n neither l
+  call_static_both q h found vs us s s' (Some code) x y n l = call_code_both q h found code vs us None None s s' (λ k c. cc) x y n neither l
 
   invoke_found_both : (q : Place) → Stands R e q → (m : MethodRef) (found : Option FoundMethod) → ((f : FoundMethod) → found ≡ Some f → (x : Found e.worlds.program f) × (slots_of x ≡ argument_slots m.descriptor)) → Both R e (invoke_found (here e q) m found) (invoke_found (here' e q) m found)
   invoke_found_both q h m None x = stopped
   invoke_found_both q h m (Some found) x = initialized_both R e q h found.class.name _ _
-      (arguments_both R e (units q.stack) (argument_slots m.descriptor) (reverse m.descriptor.parameters) [] [] _ _ (static_of found (here e q)) (static_of found (here' e q)) (from_none m.descriptor) none (all_of R e q h) (λ vs us s s' z n l. call_static_both q h found vs us s s' found.method.code ((x found refl).0, omega (arith, z, (x found refl).1)) refl n l))
+      (arguments_both R e (units q.stack) (argument_slots m.descriptor) (reverse m.descriptor.parameters) [] [] _ _ (static_of found (here e q)) (static_of found (here' e q)) (from_none m.descriptor) none (all_of R e q h) (λ vs us s s' d z n l. call_static_both q h found vs us s s' found.method.code ((x found refl).0, omega (arith, z, (x found refl).1)) refl n l))
 
   invoke_both : (q : Place) → Stands R e q → (op : InvokeOp) (m : MethodRef) → instruction_in (method_named e.worlds.program q.method) q.at ≡ Some (instr.Invoke op m) → Both R e (row_invoke (here e q) op m) (row_invoke (here' e q) op m)
   invoke_both q h op m i = by m.class op refl i
     where
       by : (c : ClassRef) (op : InvokeOp) → m.class ≡ c → instruction_in (method_named e.worlds.program q.method) q.at ≡ Some (instr.Invoke op m) → Both R e (row_invoke_of (here e q) op m c) (row_invoke_of (here' e q) op m c)
-      by (named.Class class) invoke.Virtual y i = invoke_virtual_both q h class m
-      by (named.Class class) invoke.Special y i = invoke_special_both q h class m i y
+      by (named.Class class) invoke.Virtual y i = invoke_virtual_both q h class m (asked_by q h invoke.Virtual m (λ x. cc) i)
+      by (named.Class class) invoke.Special y i = invoke_special_both q h class m (asked_by q h invoke.Special m (λ x. cc) i) i y
       by (named.Class class) invoke.Static y i = invoke_found_both q h m (resolve_method e.worlds.program class m.name m.descriptor) (λ f c. (by_name class m.name m.descriptor c, refl))
-      by (named.Class class) invoke.Interface y i = invoke_interface_both q h class m
+      by (named.Class class) invoke.Interface y i = invoke_interface_both q h class m (asked_by q h invoke.Interface m (λ x. cc) i)
       by (named.Array t) op y i = stopped
 
   -- returns
@@ -564,11 +581,10 @@ module _ (R : ℕ → ℕ → Type 0) (e : Setting R) where
   throw_row_both q h = reference_both R e (units q.stack) _ _ (throw_from (here e q)) (throw_from (here' e q)) (all_of R e q h)
       (λ i i' s s' r l. object_both R e q i i' (throw_in (here e q)) (throw_in (here' e q)) r (λ k j o b a c d x. throw_if k j o b c a x q))
 
-  monitor_both : (q : Place) → Stands R e q → (op : MonitorOp) → Both R e (row_monitor (here e q) op) (row_monitor (here' e q) op)
-  monitor_both q h Enter = reference_both R e (units q.stack) _ _ (enter_from (here e q)) (enter_from (here' e q)) (all_of R e q h)
-      (λ i i' s s' r l. object_both R e q i i' (enter_in (here e q) s) (enter_in (here' e q) s') r
-      (λ k j o b a c d x. enter_both R e k j (λ w. go_on_in (here e q) w s) (λ w. go_on_in (here' e q) w s') a (λ ms ms' y. go_on_both R e q h _ _ s s' (locks y) (less (units q.stack) s s' l))))
-  monitor_both q h Exit = reference_both R e (units q.stack) _ _ (exit_from (here e q)) (exit_from (here' e q)) (all_of R e q h)
+  monitor_both : (q : Place) → Stands R e q → (op : MonitorOp) → instruction_in (method_named e.worlds.program q.method) q.at ≡ Some (instr.Monitor op) → Both R e (row_monitor (here e q) op) (row_monitor (here' e q) op)
+  monitor_both q h Enter i = referred_both R e q (units q.stack) _ _ (enter_in (here e q)) (enter_in (here' e q)) (all_of R e q h)
+      (λ k j o b s s' d r x l. enter_both R e k j (λ w. go_on_in (here e q) w s) (λ w. go_on_in (here' e q) w s') (subst (λ fs. Asks e.worlds.program fs k) (sym h.its) (by_monitorenter i d)) r (λ ms ms' y. go_on_both R e q h _ _ s s' (locks y) (less (units q.stack) s s' l)))
+  monitor_both q h Exit i = reference_both R e (units q.stack) _ _ (exit_from (here e q)) (exit_from (here' e q)) (all_of R e q h)
       (λ i i' s s' r l. object_both R e q i i' (exit_in (here e q) s) (exit_in (here' e q) s') r
       (λ k j o b a c d x. leave_both R e k j _ _ (λ w. go_on_in (here e q) w s) (λ w. go_on_in (here' e q) w s') a (throws_both R e q (codes "java/lang/IllegalMonitorStateException") refl) (λ ms ms' y. go_on_both R e q h _ _ s s' (locks y) (less (units q.stack) s s' l))))
 
@@ -582,7 +598,7 @@ module _ (R : ℕ → ℕ → Type 0) (e : Setting R) where
   row_both q h (instr.Array op) c = array_both q h op
   row_both q h (instr.Return op) c = return_both q h op
   row_both q h instr.Throw c = throw_row_both q h
-  row_both q h (instr.Monitor op) c = monitor_both q h op
+  row_both q h (instr.Monitor op) c = monitor_both q h op c
   row_both q h (instr.Constant x) c = constant_both q h x
   row_both q h (instr.Field op f) c = field_both q h op f
   row_both q h (instr.Invoke op m) c = invoke_both q h op m c

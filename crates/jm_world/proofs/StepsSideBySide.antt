@@ -1,5 +1,5 @@
 -- A step of a thread in two worlds beside one another.
-use Rattle.std.proofs.Common.{◌≡◌, ℕ, List, [], ◌∷◌, ◌++◌, Option, Some, None, true, refl, subst, length, arith}
+use Rattle.std.proofs.Common.{◌≡◌, ℕ, List, [], ◌∷◌, ◌++◌, Option, Some, None, true, refl, sym, subst, length, arith}
 use Rattle.std.specs.Prelude.{nat_eq, nat_le, codes}
 use Rattle.jm_program.specs.Flags.{is_abstract}
 use Rattle.jm_program.specs.declared.code.Code.{Code}
@@ -26,6 +26,7 @@ use Rattle.jm_values.specs.Activation.{Activation}
 use Rattle.jm_world.proofs.Turning.{Found, FoundFor, by_class, of_class, unneeded, begun, onward, upward, initialized, finished, Drops, no_frame, a_method, an_initialization, a_refusal, an_entry, none_left, at_entry, goes_on, raises, catches, drops, dies}
 use Rattle.jm_world.proofs.Turning as turning
 use Rattle.jm_world.proofs.Leaving.{Leaves, by_row, as_before, cleared, raised, died, is_thrown}
+use Rattle.jm_world.proofs.Asking.{Asks, by_entry}
 use Rattle.jm_world.proofs.Fitting.{with_monitors}
 use Rattle.jm_world.specs.SideBySide.{refs, Lists, none, more, Options, neither, both, Objects, objects, acts, Frames, methods, initializations, entries}
 use Rattle.jm_world.specs.TwoWorlds.{left, right}
@@ -90,7 +91,7 @@ module _ (R : ℕ → ℕ → Type 0) (e : Setting R) where
   -- initialization
   begin_both : (class : List ℕ) (fs fs' : List Frame) (state : ClassState) → state_of w class ≡ state → e.thread.frames ≡ initialization_frame class Begin ∷ fs → Lists (Frames R) fs fs' → Both R e (begin w e.number e.thread class fs state) (begin w' e.number e.thread' class fs' state)
   begin_both class fs fs' Done c d l = frames_both R e w w' fs fs' None (goes_on _ d unneeded) same l
-  begin_both class fs fs' (InProgress owner) c d l = if_told R e (nat_eq owner e.number) _ _ _ _ (λ x. frames_both R e w w' fs fs' None (goes_on _ d unneeded) same l) (λ x. blocked (for_class class owner c x))
+  begin_both class fs fs' (InProgress owner) c d l = if_told R e (nat_eq owner e.number) _ _ _ _ (λ x. frames_both R e w w' fs fs' None (goes_on _ d unneeded) same l) (λ x. blocked (for_class class owner fs d c x))
   begin_both class fs fs' Failed c d l = throw_both R e (codes "java/lang/NoClassDefFoundError") fs fs' (by_row refl) (λ k. drops _ k d a_refusal) l
   begin_both class fs fs' NotBegun c d l = frames_both R e _ _ _ _ (Some (class, InProgress e.number)) (goes_on _ d begun) (begins class) (more initializations l)
 
@@ -119,7 +120,7 @@ module _ (R : ℕ → ℕ → Type 0) (e : Setting R) where
   -- entries and steps
   enter_code_both : (fs fs' : List Frame) (found : FoundMethod) (k j : ℕ) (code : Option Code) → FoundFor w.program found 1 → found.method.code ≡ code → e.thread.frames ≡ entry_frame ∷ fs → Lists (Frames R) fs fs' → R k j → Both R e (enter_code w e.number e.thread fs found k code) (enter_code w' e.number e.thread' fs' found j code)
   enter_code_both fs fs' found k j None x y d l r = ended_both R e _ d at_entry
-  enter_code_both fs fs' found k j (Some code) x y d l r = enter_if_both R e _ _ (entered e.number e.thread fs found k code) (entered e.number e.thread' fs' found j code) (monitor_alike found.method k j r)
+  enter_code_both fs fs' found k j (Some code) x y d l r = enter_if_both R e _ _ (entered e.number e.thread fs found k code) (entered e.number e.thread' fs' found j code) (λ i c. subst (λ fs. Asks w.program fs i) (sym d) by_entry) (monitor_alike found.method k j r)
       (λ ms ms' z. frames_both R e (with_monitors w ms) (with_monitors w' ms') _ _ None (goes_on _ d (turning.entered found code k (monitor_of found.method k) x.0 y x.1)) (locks z) (more (methods (called_alike code _ _ (more (refs r) none)) (monitor_alike found.method k j r)) l))
 
   enter_found_both : (fs fs' : List Frame) (k j : ℕ) (found : Option FoundMethod) → ((f : FoundMethod) → found ≡ Some f → FoundFor w.program f 1) → e.thread.frames ≡ entry_frame ∷ fs → Lists (Frames R) fs fs' → R k j → Both R e (enter_found w e.number e.thread fs k found) (enter_found w' e.number e.thread' fs' j found)

@@ -7,7 +7,7 @@ use Rattle.jm_values.specs.PlainRows.{row_plain}
 use Rattle.jm_values.specs.declared.value.Value.{Value}
 use Rattle.jm_world.specs.Classes.{MethodName, class_named}
 use Rattle.jm_world.specs.Objects.{Object, FieldName}
-use Rattle.jm_world.specs.Frames.{Frame, method_frame}
+use Rattle.jm_world.specs.Frames.{Frame, method_frame, initialization_frame}
 use Rattle.jm_world.specs.World.{World, Thread, Monitor, reach_cells, with_thread, with_state, state_in, literal_in, static_in, set_static_in}
 use Rattle.jm_world.specs.Next.{Next, goes, stops, blocks, with_objects}
 use Rattle.jm_world.specs.Here.{Here}
@@ -19,6 +19,8 @@ use Rattle.jm_world.specs.declared.class_state.ClassState.{ClassState}
 use Rattle.jm_world.specs.declared.class_state.ClassState.TheVariants.{InProgress, Failed}
 use Rattle.jm_world.specs.declared.stop.Stop.{Stop}
 use Rattle.jm_world.specs.SideBySide.{Values, Lists, Options, Objects, Acts, Frames, Held}
+use Rattle.jm_world.specs.declared.stage.Stage.TheVariants.{Begin}
+use Rattle.jm_world.proofs.Asking.{Asks}
 use Rattle.jm_world.proofs.Leaving.{Leaves}
 use Rattle.jm_world.proofs.Turning.{IsAt, Turn}
 use Rattle.jm_world.specs.TwoWorlds.{Two, left, right}
@@ -86,10 +88,10 @@ pub data Locks (R : ℕ → ℕ → Type 0) (p : Two) (n : ℕ) : List Monitor �
   left_last : {k j : ℕ} {m : Monitor} → R k j → monitor_in p.one.monitors k ≡ Some m → nat_eq m.owner n ≡ true → nat_lt 1 m.count ≡ false
       → Locks R p n (without_monitor p.one.monitors k) (without_monitor p.other.monitors j)
 
--- why a thread is blocked: another owns a monitor, or initializes a class
-pub data Waits (p : Two) (n : ℕ) : Type 0 where
-  for_monitor : (k : ℕ) (m : Monitor) → monitor_in p.one.monitors k ≡ Some m → nat_eq m.owner n ≡ false → Waits p n
-  for_class : (class : List ℕ) (owner : ℕ) → state_in p.classes class ≡ InProgress owner → nat_eq owner n ≡ false → Waits p n
+-- why a thread is blocked: another owns the monitor that it asks for, or initializes the class of its top frame
+pub data Waits (p : Two) (n : ℕ) (t : Thread) : Type 0 where
+  for_monitor : (k : ℕ) (m : Monitor) → Asks p.program t.frames k → monitor_in p.one.monitors k ≡ Some m → nat_eq m.owner n ≡ false → Waits p n t
+  for_class : (class : List ℕ) (owner : ℕ) (below : List Frame) → t.frames ≡ initialization_frame class Begin ∷ below → state_in p.classes class ≡ InProgress owner → nat_eq owner n ≡ false → Waits p n t
 
 -- a step has made two threads of two
 pub record Turned (R : ℕ → ℕ → Type 0) (p : Two) (n : ℕ) (t u : Thread) (c : Option (List ℕ × ClassState)) (s r : Thread) : Type 0 where
@@ -117,7 +119,7 @@ pub data Changes (R : ℕ → ℕ → Type 0) (p : Two) (n : ℕ) : Option (List
 -- what comes of a step of a thread in two worlds
 pub data Comes (R : ℕ → ℕ → Type 0) (p : Two) (n : ℕ) (t u : Thread) : Next → Next → Type 0 where
   stopped : {s : Stop} → Comes R p n t u (stops s) (stops s)
-  blocked : Waits p n → Comes R p n t u blocks blocks
+  blocked : Waits p n t → Comes R p n t u blocks blocks
   went : {w v : World} {s r : Thread} (c : Option (List ℕ × ClassState)) → Changes R p n c w v → Turned R p n t u c s r → Leaves (left p) t.pending [] s.pending → Comes R p n t u (goes (with_thread w n s)) (goes (with_thread v n r))
   makes : (os : List Object) {s r : Thread} → AreNew p os → Turned (Grown R p (length os)) p n t u None s r → Leaves (left p) t.pending os s.pending
       → Comes R p n t u (goes (with_thread (with_objects (left p) os) n s)) (goes (with_thread (with_objects (right p) os) n r))

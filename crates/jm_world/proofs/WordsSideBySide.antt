@@ -1,5 +1,5 @@
 -- The words that rows are written in, in two worlds beside one another.
-use Rattle.std.proofs.Common.{◌≡◌, ℕ, zero, suc, ◌+◌, ◌^◌, ◌<◌, ◌≤◌, List, [], ◌∷◌, ◌++◌, Option, Some, None, Bool, true, false, refl, length, ap, arith, inl, inr, ℤ}
+use Rattle.std.proofs.Common.{◌≡◌, ℕ, zero, suc, ◌+◌, ◌^◌, ◌<◌, ◌≤◌, List, [], ◌∷◌, ◌++◌, Option, Some, None, Bool, true, false, refl, length, drop, ap, ◌∙◌, arith, inl, inr, ℤ}
 use Rattle.std.specs.Prelude.{◌-◌, slice_get, slice_set, map, nat_eq, nat_lt, nat_le, codes}
 use Rattle.std.specs.List.{AllByRecursion, sum_by}
 use Rattle.std.proofs.lemmas.Bool.{ltb-true, leb-true}
@@ -29,6 +29,7 @@ use Rattle.jm_world.specs.TwoWorlds.{Two, left, right}
 use Rattle.jm_world.proofs.WhatComes.{Alike, IsNew, Grown, AreNew, Place, Stands, Locks, stay, again, left_one, left_last, for_monitor, Changes, same, locks, Comes, stopped, blocked, Turned, went, makes, fails, starts, Setting, here, here'}
 use Rattle.jm_world.proofs.WhatComes as two
 use Rattle.jm_world.proofs.Arguments.{one_more}
+use Rattle.jm_world.proofs.Asking.{Asks}
 use Rattle.jm_world.proofs.Leaving.{is_thrown, Thrown, by_row, Leaves, as_before, raised}
 use Rattle.jm_world.proofs.Turning.{Turn, goes_on, moved, needed, raises}
 use Rattle.jm_world.specs.declared.class_state.ClassState.{ClassState}
@@ -271,15 +272,15 @@ module _ (R : ℕ → ℕ → Type 0) (e : Setting R) where
       first (o ∷ os) = refs (new_one (length (o ∷ os)) (omega arith))
 
   -- operands
-  operand_told : (n : ℕ) (type : OperandType) (s s' : List Value) (go go' : Value → List Value → Next) → Rest R n s s' → ((v v' : Value) (r r' : List Value) → is_of type v ≡ true → Values R v v' → Popped R n r r' → Both (go v r) (go' v' r')) → Both (with_operand type s go) (with_operand type s' go')
-  operand_told n type s s' go go' l f = by s s' l.0 l.1
+  operand_told : (n : ℕ) (type : OperandType) (s s' : List Value) (go go' : Value → List Value → Next) → Rest R n s s' → ((v v' : Value) (r r' : List Value) → s ≡ v ∷ r → is_of type v ≡ true → Values R v v' → Popped R n r r' → Both (go v r) (go' v' r')) → Both (with_operand type s go) (with_operand type s' go')
+  operand_told n type s s' go go' l f = by s s' refl l.0 l.1
     where
-      by : (s s' : List Value) → Lists (Values R) s s' → units s ≤ n → Both (with_operand type s go) (with_operand type s' go')
-      by _ _ none b = stopped
-      by _ _ (more a m) b = same_told (is_of type _) _ (type_same type a) _ _ _ _ (λ y. f _ _ _ _ y a (popped n _ _ _ m b)) stopped
+      by : (t t' : List Value) → s ≡ t → Lists (Values R) t t' → units t ≤ n → Both (with_operand type t go) (with_operand type t' go')
+      by _ _ d none b = stopped
+      by _ _ d (more a m) b = same_told (is_of type _) _ (type_same type a) _ _ _ _ (λ y. f _ _ _ _ d y a (popped n _ _ _ m b)) stopped
 
   pub operand_both : (n : ℕ) (type : OperandType) (s s' : List Value) (go go' : Value → List Value → Next) → Rest R n s s' → ((v v' : Value) (r r' : List Value) → Values R v v' → Popped R n r r' → Both (go v r) (go' v' r')) → Both (with_operand type s go) (with_operand type s' go')
-  operand_both n type s s' go go' l f = operand_told n type s s' go go' l (λ v v' r r' y a m. f v v' r r' a m)
+  operand_both n type s s' go go' l f = operand_told n type s s' go go' l (λ v v' r r' d y a m. f v v' r r' a m)
 
   pub int_both : (n : ℕ) (s s' : List Value) (go go' : ℤ → List Value → Next) → Rest R n s s' → ((i : ℤ) (r r' : List Value) → Popped R n r r' → Both (go i r) (go' i r')) → Both (with_int s go) (with_int s' go')
   int_both n s s' go go' l f = by s s' l.0 l.1
@@ -302,9 +303,10 @@ module _ (R : ℕ → ℕ → Type 0) (e : Setting R) where
       by _ _ (more (refs {k = k} r) m) b = f _ _ _ _ (both r) (popped n (Ref k) _ _ m b)
 
   pub arguments_both : (n m : ℕ) (ts : List FieldType) (a a' s s' : List Value) (go go' : List Value → List Value → Next) → length (locals_of a) + sum_by slots ts ≤ m → Lists (Values R) a a' → Rest R n s s'
-      → ((vs vs' r r' : List Value) → length (locals_of vs) ≤ m → Lists (Values R) vs vs' → Rest R n r r' → Both (go vs r) (go' vs' r')) → Both (with_arguments ts a s go) (with_arguments ts a' s' go')
-  arguments_both n m [] a a' s s' go go' z b l f = f _ _ _ _ (omega (arith, z)) b l
-  arguments_both n m (t ∷ ts) a a' s s' go go' z b l f = operand_told n (operand_of t) s s' _ _ l (λ v v' r r' y c i. arguments_both n m ts (v ∷ a) (v' ∷ a') r r' go go' (one_more t ts v a m y z) (more c b) (less n r r' i) f)
+      → ((vs vs' r r' : List Value) → drop (length ts) s ≡ r → length (locals_of vs) ≤ m → Lists (Values R) vs vs' → Rest R n r r' → Both (go vs r) (go' vs' r')) → Both (with_arguments ts a s go) (with_arguments ts a' s' go')
+  arguments_both n m [] a a' s s' go go' z b l f = f _ _ _ _ refl (omega (arith, z)) b l
+  arguments_both n m (t ∷ ts) a a' s s' go go' z b l f = operand_told n (operand_of t) s s' _ _ l
+      (λ v v' r r' d y c i. arguments_both n m ts (v ∷ a) (v' ∷ a') r r' go go' (one_more t ts v a m y z) (more c b) (less n r r' i) (λ vs us x x' p. f vs us x x' (ap (drop (suc (length ts))) d ∙ p)))
 
   pub object_both : (q : Place) (k k' : Option ℕ) (go go' : ℕ → Object → Next) → Options R k k'
       → ((i j : ℕ) (o o' : Object) → R i j → slice_get w.heap i ≡ Some o → slice_get w'.heap j ≡ Some o' → Objects R o o' → Both (go i o) (go' j o')) → Both (with_object (here e q) k go) (with_object (here' e q) k' go')
@@ -314,6 +316,20 @@ module _ (R : ℕ → ℕ → Type 0) (e : Setting R) where
       by : (o o' : Option Object) → slice_get w.heap i ≡ o → slice_get w'.heap j ≡ o' → Options (Objects R) o o' → Both (elim o [ None ↦ faults WrongKind | Some o ↦ go i o ]) (elim o' [ None ↦ faults WrongKind | Some o ↦ go' j o ])
       by _ _ a b neither = stopped
       by _ _ a b (both x) = f i j _ _ r a b x
+
+  -- the object that the first operand refers to
+  pub referred_both : (q : Place) (n : ℕ) (s s' : List Value) (go go' : ℕ → Object → List Value → Next) → Rest R n s s'
+      → ((k j : ℕ) (o o' : Object) (r r' : List Value) → slice_get s 0 ≡ Some (Ref k) → R k j → Objects R o o' → Popped R n r r' → Both (go k o r) (go' j o' r'))
+      → Both (with_reference s (λ i r. with_object (here e q) i (λ k o. go k o r))) (with_reference s' (λ i r. with_object (here' e q) i (λ k o. go' k o r)))
+  referred_both q n s s' go go' l f = by s s' refl l.0 l.1
+    where
+      by : (t t' : List Value) → s ≡ t → Lists (Values R) t t' → units t ≤ n → Both (with_reference t (λ i r. with_object (here e q) i (λ k o. go k o r))) (with_reference t' (λ i r. with_object (here' e q) i (λ k o. go' k o r)))
+      by _ _ d none b = stopped
+      by _ _ d (more ints m) b = stopped
+      by _ _ d (more longs m) b = stopped
+      by _ _ d (more nulls m) b = throws_both q (codes "java/lang/NullPointerException") refl
+      by _ _ d (more {xs = xs} {ys = ys} (refs {k = k} {j = j} r) m) b = option_both (Objects R) _ _ (e.alike.objects k j r) (faults WrongKind) (faults WrongKind) (λ o. go k o xs) (λ o. go' j o ys) stopped
+          (λ o o' x. f k j o o' xs ys (ap (λ t. slice_get t 0) d) r x (popped n (Ref k) _ _ m b))
 
   pub depth_both : (fs fs' : List Frame) (x x' : Next) → Lists (Frames R) fs fs' → (length fs < 512 → Both x x') → Both (with_depth w e.number e.thread fs x) (with_depth w' e.number e.thread' fs' x')
   depth_both fs fs' x x' l f = same_told (nat_lt (length fs) 512) _ (ap (λ n. nat_lt n 512) (lists_long l)) _ _ _ _ (λ d. f (ltb-true (length fs) 512 d)) (throw_both (codes "java/lang/StackOverflowError") e.thread.frames e.thread'.frames (by_row refl) raises e.running.frames)
@@ -331,16 +347,16 @@ module _ (R : ℕ → ℕ → Type 0) (e : Setting R) where
   initialized_both q h class x x' f = if_both (is_ready (state_of w class) e.number) _ _ _ _ f (push_frame_both _ _ _ _ (λ d. goes_on _ h.its (needed class d h.stands)) (here_frames q h) initializations)
 
   -- monitors
-  pub enter_both : (k j : ℕ) (go go' : World → Next) → R k j → ((ms ms' : List Monitor) → Locks R e.worlds e.number ms ms' → Both (go (with_monitors w ms)) (go' (with_monitors w' ms'))) → Both (enter w e.number k go) (enter w' e.number j go')
-  enter_both k j go go' r f = by (monitor_in w.monitors k) (monitor_in w'.monitors j) refl refl (e.alike.held k j r)
+  pub enter_both : (k j : ℕ) (go go' : World → Next) → Asks e.worlds.program e.thread.frames k → R k j → ((ms ms' : List Monitor) → Locks R e.worlds e.number ms ms' → Both (go (with_monitors w ms)) (go' (with_monitors w' ms'))) → Both (enter w e.number k go) (enter w' e.number j go')
+  enter_both k j go go' x r f = by (monitor_in w.monitors k) (monitor_in w'.monitors j) refl refl (e.alike.held k j r)
     where
       by : (o o' : Option Monitor) → monitor_in w.monitors k ≡ o → monitor_in w'.monitors j ≡ o' → Options Held o o' → Both (entered w e.number k o go) (entered w' e.number j o' go')
       by _ _ a b neither = f _ _ (two.entered r a b)
-      by _ _ a b (both (held {owner = owner} {count = count})) = if_told (nat_eq owner e.number) _ _ _ _ (λ d. if_told (nat_lt (count + 1) (2 ^ 31)) _ _ _ _ (λ c. f _ _ (again r a d c)) (λ c. stopped)) (λ d. blocked (for_monitor k _ a d))
+      by _ _ a b (both (held {owner = owner} {count = count})) = if_told (nat_eq owner e.number) _ _ _ _ (λ d. if_told (nat_lt (count + 1) (2 ^ 31)) _ _ _ _ (λ c. f _ _ (again r a d c)) (λ c. stopped)) (λ d. blocked (for_monitor k _ x a d))
 
-  pub enter_if_both : (o o' : Option ℕ) (go go' : World → Next) → Options R o o' → ((ms ms' : List Monitor) → Locks R e.worlds e.number ms ms' → Both (go (with_monitors w ms)) (go' (with_monitors w' ms'))) → Both (enter_if w e.number o go) (enter_if w' e.number o' go')
-  enter_if_both _ _ go go' neither f = f _ _ stay
-  enter_if_both _ _ go go' (both r) f = enter_both _ _ go go' r f
+  pub enter_if_both : (o o' : Option ℕ) (go go' : World → Next) → ((k : ℕ) → o ≡ Some k → Asks e.worlds.program e.thread.frames k) → Options R o o' → ((ms ms' : List Monitor) → Locks R e.worlds e.number ms ms' → Both (go (with_monitors w ms)) (go' (with_monitors w' ms'))) → Both (enter_if w e.number o go) (enter_if w' e.number o' go')
+  enter_if_both _ _ go go' x neither f = f _ _ stay
+  enter_if_both _ _ go go' x (both {x = k} r) f = enter_both _ _ go go' (x k refl) r f
 
   left_both : (k j : ℕ) (x x' : Next) (go go' : World → Next) → R k j → Both x x' → ((ms ms' : List Monitor) → Locks R e.worlds e.number ms ms' → Both (go (with_monitors w ms)) (go' (with_monitors w' ms')))
       → (o o' : Option Monitor) → monitor_in w.monitors k ≡ o → Options Held o o' → Both (elim (elim (left_in w.monitors e.number k o) as (λ _. Option World) [ None ↦ None | Some ms ↦ Some (record w { monitors = ms }) ]) [ None ↦ x | Some l ↦ go l ]) (elim (elim (left_in w'.monitors e.number j o') as (λ _. Option World) [ None ↦ None | Some ms ↦ Some (record w' { monitors = ms }) ]) [ None ↦ x' | Some l ↦ go' l ])
