@@ -18,11 +18,10 @@ mod written;
 use files::files_read;
 use jm_command::{Command, Execution, command_of};
 use jm_execute::{
-    FilmJob, Finished, InputFile, Job, Status, ToldJob, TraceJob, Watched, check, execute, explain,
-    film, tell_unwritten, tell_version, trace, why, write_out_of_memory,
+    Status, Watched, check, execute, explain, film, tell_unwritten, tell_version, trace, why,
+    write_out_of_memory,
 };
-use jm_explain::Entry;
-use jm_options::{Options, UsageFault, options, read_and_written};
+use jm_options::{UsageFault, options, read_and_written};
 use output::Output;
 use std::fs;
 use std::process::ExitCode;
@@ -31,80 +30,29 @@ use std::thread::Threads;
 use word::{WordsFault, words};
 use written::written_over;
 
-// Writes a run as a page. It may start threads, which collect the heap.
-fn filmed(rt: &HostRuntime, threads: &impl Threads, job: &FilmJob) -> Status {
-    let mut out = Watched::new(rt.stdout());
-    let mut err = Watched::new(rt.stderr());
-    film(threads, rt.alloc(), job, &mut out, &mut err)
-}
-
-// Writes a line for each event of a run. It may start threads, which collect the heap.
-fn traced(rt: &HostRuntime, threads: &impl Threads, job: &TraceJob) -> Status {
-    let mut out = Watched::new(rt.stdout());
-    let mut err = Watched::new(rt.stderr());
-    trace(threads, rt.alloc(), job, &mut out, &mut err)
-}
-
-// Says how a run ended, and where. It may start threads, which collect the heap.
-fn reasoned(rt: &HostRuntime, threads: &impl Threads, job: &ToldJob) -> Status {
-    let mut out = Watched::new(rt.stdout());
-    let mut err = Watched::new(rt.stderr());
-    why(threads, rt.alloc(), job, &mut out, &mut err)
-}
-
-// Does a job, with its output where it belongs. A run may start threads, and wait for its machine's
-// lock, and a session for a line.
-fn finished(rt: &HostRuntime, wait: &(impl Threads + Wait + Sync), job: &Job) -> Finished {
+// Does a job, with its output where it belongs, and writes its record to its file, where one is named and there is a
+// record. A run may start threads, and wait for its machine's lock, and a session for a line.
+fn executed(
+    rt: &HostRuntime,
+    wait: &(impl Threads + Wait + Sync),
+    execution: &Execution,
+) -> Status {
+    let job = &execution.job;
     let mut input = Watched::new(rt.stdin());
     let mut out = Watched::new(Output::of(rt, job));
     let mut err = Watched::new(rt.stderr());
-    execute(wait, rt.alloc(), job, &mut input, &mut out, &mut err)
-}
-
-// Writes the record of a run to its file.
-fn record_written(rt: &HostRuntime, text: &[u8], name: &str, status: Status) -> Status {
+    let finished = execute(wait, rt.alloc(), job, &mut input, &mut out, &mut err);
+    let (Some(text), Some(name)) = (&finished.record_text, &execution.record_file) else {
+        return finished.status;
+    };
     match fs::write(rt, name, text) {
-        Ok(()) => status,
+        Ok(()) => finished.status,
         Err(_) => {
             let mut err = Watched::new(rt.stderr());
             tell_unwritten(rt.alloc(), name, &mut err);
             Status::Files
         }
     }
-}
-
-// Does a job, and writes its record to its file, where one is named and there is a record.
-fn executed(
-    rt: &HostRuntime,
-    wait: &(impl Threads + Wait + Sync),
-    execution: &Execution,
-) -> Status {
-    let finished = finished(rt, wait, &execution.job);
-    match (&finished.record_text, &execution.record_file) {
-        (Some(text), Some(name)) => record_written(rt, text, name, finished.status),
-        _ => finished.status,
-    }
-}
-
-// Says all that is refused of files.
-fn checked(rt: &HostRuntime, files: &[InputFile]) -> Status {
-    let mut out = Watched::new(rt.stdout());
-    let mut err = Watched::new(rt.stderr());
-    check(rt.alloc(), files, &mut out, &mut err)
-}
-
-// Says what a number means, or which numbers there are.
-fn explained(rt: &HostRuntime, asked: Option<Entry>) -> Status {
-    let mut out = Watched::new(rt.stdout());
-    let mut err = Watched::new(rt.stderr());
-    explain(rt.alloc(), asked, &mut out, &mut err)
-}
-
-// Says which `jm` this is.
-fn version(rt: &HostRuntime) -> Status {
-    let mut out = Watched::new(rt.stdout());
-    let mut err = Watched::new(rt.stderr());
-    tell_version(&mut out, &mut err)
 }
 
 // Says that a growth was refused.
@@ -129,31 +77,23 @@ fn not_done(rt: &HostRuntime, fault: &UsageFault) -> Status {
     }
 }
 
-// Does what is asked for.
+// Does what is asked for. What runs a program may start threads, which collect the heap.
 fn done(rt: &HostRuntime, wait: &(impl Threads + Wait + Sync), command: &Command) -> Status {
+    let alloc = rt.alloc();
+    let mut out = Watched::new(rt.stdout());
+    let mut err = Watched::new(rt.stderr());
     match command {
         Command::Execute(execution) => executed(rt, wait, execution),
-        Command::Check(files) => checked(rt, files),
-        Command::Why(job) => reasoned(rt, wait, job),
-        Command::Trace(job) => traced(rt, wait, job),
-        Command::Film(job) => filmed(rt, wait, job),
-        Command::Explain(entry) => explained(rt, *entry),
-        Command::Version => version(rt),
+        Command::Check(files) => check(alloc, files, &mut out, &mut err),
+        Command::Why(job) => why(wait, alloc, job, &mut out, &mut err),
+        Command::Trace(job) => trace(wait, alloc, job, &mut out, &mut err),
+        Command::Film(job) => film(wait, alloc, job, &mut out, &mut err),
+        Command::Explain(entry) => explain(alloc, *entry, &mut out, &mut err),
+        Command::Version => tell_version(&mut out, &mut err),
     }
 }
 
-// Reads the files that are named, and does what is asked for. A file that is read is not written.
-fn answered(rt: &HostRuntime, wait: &(impl Threads + Wait + Sync), asked: Options) -> Status {
-    if let Some(name) = written_over(rt, &asked) {
-        return not_done(rt, &read_and_written(rt.alloc(), name));
-    }
-    match files_read(rt, &asked) {
-        Ok(files) => done(rt, wait, &command_of(asked, files)),
-        Err(_) => out_of_memory(rt),
-    }
-}
-
-// The status of the command line.
+// Reads the command line and the files that it names, and does what is asked for. A file that is read is not written.
 fn status(rt: &HostRuntime, wait: &(impl Threads + Wait + Sync)) -> Status {
     let words = match words(rt) {
         Ok(words) => words,
@@ -166,9 +106,16 @@ fn status(rt: &HostRuntime, wait: &(impl Threads + Wait + Sync)) -> Status {
             return out_of_memory(rt);
         }
     }
-    match options(rt.alloc(), &texts) {
-        Ok(asked) => answered(rt, wait, asked),
-        Err(fault) => not_done(rt, &fault),
+    let asked = match options(rt.alloc(), &texts) {
+        Ok(asked) => asked,
+        Err(fault) => return not_done(rt, &fault),
+    };
+    if let Some(name) = written_over(rt, &asked) {
+        return not_done(rt, &read_and_written(rt.alloc(), name));
+    }
+    match files_read(rt, &asked) {
+        Ok(files) => done(rt, wait, &command_of(asked, files)),
+        Err(_) => out_of_memory(rt),
     }
 }
 

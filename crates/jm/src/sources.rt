@@ -3,21 +3,12 @@
 use crate::utf8::Utf8;
 use jm_execute::{InputFile, class_of};
 use jm_page::Source;
-use jm_program::{Class, Name};
+use jm_program::Class;
 use std::alloc::{AllocError, Global};
 use std::fs;
 use std::io::ErrorKind;
 
 const SLASH: u16 = 47;
-
-// The code units of a class's package, with the slash behind it; none where it is in no package.
-fn package_of(class: &Name) -> &[u16] {
-    let units = class.units();
-    match units.iter().rposition(|unit| *unit == SLASH) {
-        Some(at) => &units[..=at],
-        None => &[],
-    }
-}
 
 // The name of a class's source below a folder: that of its package and that of its file (JVMS 4.7.10).
 // None where it names no file, or one in a folder of its own.
@@ -30,28 +21,28 @@ fn source_name(alloc: Global, folder: &str, class: &Class) -> Result<Option<Stri
     if file.contains(&SLASH) {
         return Ok(None);
     }
-    let name = format!(in alloc; "{folder}/{}{}", Utf8(package_of(&parts.name)), Utf8(file))?;
+    let units = parts.name.units();
+    let package: &[u16] = match units.iter().rposition(|unit| *unit == SLASH) {
+        Some(at) => &units[..=at],
+        None => &[],
+    };
+    let name = format!(in alloc; "{folder}/{}{}", Utf8(package), Utf8(file))?;
     Ok(Some(name))
 }
 
-// The text of a file, if it can be read.
-fn text_of(rt: &HostRuntime, name: &str) -> Result<Option<Vec<u8>>, AllocError> {
-    match fs::read(rt, name) {
-        Ok(text) => Ok(Some(text)),
-        Err(error) => match error.kind() {
-            ErrorKind::OutOfMemory => Err(AllocError),
-            _ => Ok(None),
-        },
-    }
-}
-
-// The source of a class, if it is found below a folder.
+// The source of a class, if it is found below a folder and can be read.
 fn source_of(rt: &HostRuntime, folder: &str, class: &Class) -> Result<Option<Source>, AllocError> {
     let Some(name) = source_name(rt.alloc(), folder, class)? else {
         return Ok(None);
     };
-    let Some(text) = text_of(rt, &name)? else {
-        return Ok(None);
+    let text = match fs::read(rt, name.as_str()) {
+        Ok(text) => text,
+        Err(error) => {
+            return match error.kind() {
+                ErrorKind::OutOfMemory => Err(AllocError),
+                _ => Ok(None),
+            };
+        }
     };
     let class = class.parts().name.copy(rt.alloc())?;
     Ok(Some(Source { class, text }))

@@ -25,20 +25,15 @@ fn regular_file(rt: &HostRuntime, name: &str) -> Option<RegularFile> {
     }
 }
 
-// Whether a name leads to this regular file.
-fn leads_to(rt: &HostRuntime, name: &str, file: RegularFile) -> bool {
-    regular_file(rt, name) == Some(file)
-}
-
 // Whether a regular file is one of those that are read.
 fn is_read(rt: &HostRuntime, asked: &Options, file: RegularFile) -> bool {
     if let Some(name) = file_named(asked) {
-        if leads_to(rt, name, file) {
+        if regular_file(rt, name) == Some(file) {
             return true;
         }
     }
     for name in program_named(asked) {
-        if leads_to(rt, name, file) {
+        if regular_file(rt, name) == Some(file) {
             return true;
         }
     }

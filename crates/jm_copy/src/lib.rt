@@ -43,7 +43,7 @@ mod words;
 pub use collector::{Collector, Refused, Survivors};
 pub use copies::{Copies, Named, first_named, next_named};
 pub use laws::a_finished_scan_is_an_image;
-pub use scan::{Marks, either, next, next_after, next_of, note, pass_on};
+pub use scan::{Marks, next, next_after, next_of, note, pass_on};
 pub use serial::SerialCollector;
 pub use source::{Source, find, number};
 pub use starts::{Starts, number_all};

@@ -74,14 +74,6 @@ pub fn pass_on(to: &Copies, marks: &mut Marks, place: Place)
     marks.tenured = Some(place);
 }
 
-/// Whether one of two facts holds.
-#[inline(always)]
-pub fn either(one: bool, other: bool) -> bool
-    ensures { result ≡ (one || other) }
-{
-    if one { true } else { other }
-}
-
 // Forwards each reference of one new object, and answers whether one of them names a young one afterwards.
 #[inline(always)]
 fn scan_object(
@@ -102,7 +94,7 @@ fn scan_object(
     let mut next = to.named_first(place);
     while let Some(named) = next {
         let names = forward_named(alloc, from, to, place, named.number, named.place)?;
-        points = either(points, names);
+        points = points || names;
         next = to.named_after(place, named.number, named.end);
     }
     Ok(points)

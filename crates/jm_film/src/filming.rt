@@ -110,7 +110,7 @@ impl Filming {
 
     /// Makes an event of the machine that is filmed, and writes it. `AllocError`: a growth was refused;
     /// the film is as it was, a part of the event may be written, and the event was made or not.
-    pub fn event<H: Heap>(
+    pub(crate) fn event<H: Heap>(
         &mut self,
         alloc: Global,
         out: &mut Vec<u8>,

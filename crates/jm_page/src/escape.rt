@@ -32,7 +32,7 @@ fn write_byte(out: &mut Vec<u8>, byte: u8) -> Result<(), AllocError>
 /// Writes bytes so that no `<`, no control character and no bare backslash is among them.
 /// `AllocError`: a growth was refused; some of the bytes may be written then.
 #[tactic(auto, using(crate::proofs::Harmless::escaped_harmless))]
-pub fn write_escaped(out: &mut Vec<u8>, text: &[u8]) -> Result<(), AllocError>
+pub(crate) fn write_escaped(out: &mut Vec<u8>, text: &[u8]) -> Result<(), AllocError>
     ensures written { OnOk result (out.new.items ≡ out.old.items ++ escaped text.now) }
     ensures harmless { IsHarmless (escaped text.now) }
 {

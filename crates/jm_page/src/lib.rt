@@ -34,7 +34,6 @@ mod source;
 mod writer;
 
 pub use change::write_change;
-pub use escape::write_escaped;
 pub use event::{write_event, write_view};
 pub use film::Film;
 pub use laws::{changes_lead_on, data_tell_one_run, readers_see_each_view, runs_are_harmless};

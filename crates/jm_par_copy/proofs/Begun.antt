@@ -4,7 +4,7 @@ use Rattle.std.proofs.Common.{◌≡◌, ◌⊎◌, ℕ, zero, suc, ◌+◌, ◌
 use Rattle.std.specs.Prelude.{slice_get, not, nat_eq, nat_le, ◌&&◌, ◌/◌, MatchOption}
 use Rattle.std.specs.List.{All}
 use Rattle.std.proofs.lemmas.Bool.{cases_lt, eqb-true, le-leb}
-use Rattle.std.proofs.lemmas.List.{length-append, length-replicate, length-set}
+use Rattle.std.proofs.lemmas.List.{append-nil, length-append, length-replicate, length-set}
 use Rattle.std.proofs.lemmas.List.Elements.{All-head, All-tail}
 use Rattle.std.proofs.lemmas.Option.{slice_get_within}
 use Rattle.std.proofs.Math.Nat.{add-mod_right, add-mul-mod_self_left, lt_of_mul-lt-mul_left, mod-add-div, mod-eq_of_lt, mod-lt, mul-add}
@@ -21,7 +21,6 @@ use Rattle.jm_par_copy.specs.Moves.{piece_of, with_block}
 use Rattle.jm_par_copy.specs.Pieces.{is_in, objects_of}
 use Rattle.jm_par_copy.specs.Strides.{EndsOwn}
 use Rattle.jm_par_copy.specs.Working.{both}
-use Rattle.jm_par_copy.proofs.Begins.{append_none}
 use Rattle.jm_par_copy.proofs.Moves.{block_is_back, block_is_out, no_places}
 use Rattle.jm_par_copy.proofs.Sharing.{both_left, both_right}
 use Rattle.jm_par_copy.proofs.Strides.{opened_empty}
@@ -248,7 +247,7 @@ pub all_copied : (os copied : List Object) → IsBeginning os copied → length 
 all_copied os copied b many = by b.rest refl
   where
     by : (zs : List Object) → b.rest ≡ zs → copied ≡ os
-    by [] e = sym (b.all ∙ ap (λ zs. copied ++ zs) e ∙ append_none copied)
+    by [] e = sym (b.all ∙ ap (λ zs. copied ++ zs) e ∙ append-nil copied)
     by (z ∷ zs) e =
         let whole = ap length b.all ∙ length-append copied b.rest in
         let more = ap length e in

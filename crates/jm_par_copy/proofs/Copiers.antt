@@ -30,7 +30,8 @@ use Rattle.jm_par_copy.specs.Copiers.{AllAreReady, AreFreshCopiers, FreshAreCopy
 use Rattle.jm_par_copy.specs.declared.piece.Piece.{Piece}
 use Rattle.jm_par_copy.specs.declared.copier.Copier.{Copier}
 use Rattle.jm_par_copy.proofs.Aside.{is_there}
-use Rattle.jm_par_copy.proofs.Begins.{append_none, working_begins}
+use Rattle.std.proofs.lemmas.List.{append-nil}
+use Rattle.jm_par_copy.proofs.Begins.{working_begins}
 use Rattle.jm_par_copy.proofs.Beside.{same_in}
 use Rattle.jm_par_copy.proofs.Claiming.{claiming_new}
 use Rattle.jm_par_copy.proofs.Fresh.{nothing_made}
@@ -407,7 +408,7 @@ module _ (stores : List Blocks) (roots : List ℕ) (known wins : List (ℕ × �
   all_joined : (all : List (ℕ × ℕ)) (cs ds : List Copier) (aside : List Piece) → ((w : ℕ × ℕ) → Has known w → Has all w) → ((w : ℕ × ℕ) → Has (all_known (hands ds)) w → Has all w) → AreDone cs ds → PartBegins stores roots known wins (part_aside aside) → AreApart (parts ds aside) → Copying (objects_at stores) roots (Pairs stores all) (Pairs stores (held_after wins (turns cs ds aside))) (joint (parts ds aside)) (joint_done (parts ds aside))
   all_joined all [] [] aside g h r b p =
       let held = of_share (share (held_objects aside)) wins in
-      let same : held ≡ held ++ [] = sym (append_none held) in
+      let same : held ≡ held ++ [] = sym (append-nil held) in
       let more = copying_knows (Pairs stores known) (Pairs stores all) (Pairs stores held) (held_objects aside) (held_progress aside) (pairs_more stores known all (λ w k. contains_from all w (g w (has_from known w k)))) b in
       join_part all (held ++ []) [] (part_aside aside) []
       (subst (λ ws. Copying (objects_at stores) roots (Pairs stores all) (Pairs stores ws) (held_objects aside) (held_progress aside)) same more)

@@ -3,7 +3,7 @@ use Rattle.std.proofs.Common.{◌≡◌, ◌≢◌, ◌⊎◌, ℕ, ◌+◌, Lis
 use Rattle.std.specs.Prelude.{drop, nat_eq, slice_get}
 use Rattle.std.proofs.lemmas.Bool.Decides.{eqb_tells}
 use Rattle.std.specs.List.{Contains}
-use Rattle.std.proofs.lemmas.List.{length-append}
+use Rattle.std.proofs.lemmas.List.{append-nil, append_assoc, length-append}
 use Rattle.jm_values.specs.declared.value.Value.{Value}
 use Rattle.jm_values.specs.declared.value.Value.TheVariants.{Ref}
 use Rattle.jm_blocks.specs.Objects.{Object, with_value}
@@ -45,14 +45,6 @@ pub both_same : (f g rest : ℕ → Option Object) (q : ℕ) → g q ≡ f q →
 unfolding both
 both_same f g rest q e = ap (λ x. or_else x (rest q)) e
 
-append_none : (xs : List (ℕ × ℕ)) → xs ++ [] ≡ xs
-append_none [] = refl
-append_none (x ∷ xs) = ap (λ ys. x ∷ ys) (append_none xs)
-
-append_both : (xs ys zs : List (ℕ × ℕ)) → (xs ++ ys) ++ zs ≡ xs ++ (ys ++ zs)
-append_both [] ys zs = refl
-append_both (x ∷ xs) ys zs = ap (λ ws. x ∷ ws) (append_both xs ys zs)
-
 -- the lanes are the same
 pub dated_same : (c d : Copies) (n : ℕ) (o : Object) → d.young.lane ≡ c.young.lane → d.tenured.lane ≡ c.tenured.lane → IsDated c n o → IsDated d n o
 dated_same c d n o young old t = record { age = t.age ∙ sym (age_same c d n young); lane = by t.lane }
@@ -70,14 +62,14 @@ put_lane c d n a put = by put.by_age
 
 -- wins are added at the end
 pub wins_stay : (h : Hand) → WinsMore h h
-wins_stay h = record { copier = refl; copiers = refl; more = []; added = sym (append_none h.wins); own = λ i n k. absurd (has_from [] (i, n) k) }
+wins_stay h = record { copier = refl; copiers = refl; more = []; added = sym (append-nil h.wins); own = λ i n k. absurd (has_from [] (i, n) k) }
 
 pub wins_more : (h h' h'' : Hand) → WinsMore h h' → WinsMore h' h'' → WinsMore h h''
 wins_more h h' h'' f g = record {
   copier = g.copier ∙ f.copier;
   copiers = g.copiers ∙ f.copiers;
   more = f.more ++ g.more;
-  added = g.added ∙ ap (λ ws. ws ++ g.more) f.added ∙ append_both h.wins f.more g.more;
+  added = g.added ∙ ap (λ ws. ws ++ g.more) f.added ∙ append_assoc h.wins f.more g.more;
   own = λ i n k. by i n (has_both f.more g.more (i, n) (has_from (f.more ++ g.more) (i, n) k));
 }
   where
@@ -86,7 +78,7 @@ wins_more h h' h'' f g = record {
     by i n (inr k) = ap (λ m. owner_of m n) (sym f.copiers) ∙ g.own i n (contains_from g.more (i, n) k) ∙ f.copier
 
 pub wins_seen : (h h' : Hand) (i q : ℕ) → h' ≡ knowing h i q → WinsMore h h'
-wins_seen h h' i q e = record { copier = ap (λ (x : Hand). x.copier) e; copiers = ap (λ (x : Hand). x.copiers) e; more = []; added = ap (λ (x : Hand). x.wins) e ∙ sym (append_none h.wins); own = λ j n k. absurd (has_from [] (j, n) k) }
+wins_seen h h' i q e = record { copier = ap (λ (x : Hand). x.copier) e; copiers = ap (λ (x : Hand). x.copiers) e; more = []; added = ap (λ (x : Hand). x.wins) e ∙ sym (append-nil h.wins); own = λ j n k. absurd (has_from [] (j, n) k) }
 
 pub wins_won : (h h' : Hand) (i n : ℕ) → h' ≡ winning h i n → owner_of h.copiers n ≡ h.copier → WinsMore h h'
 wins_won h h' i n e own = record { copier = ap (λ (x : Hand). x.copier) e; copiers = ap (λ (x : Hand). x.copiers) e; more = one; added = ap (λ (x : Hand). x.wins) e; own = λ j m k. by j m (has_from one (j, m) k) }

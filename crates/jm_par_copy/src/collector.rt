@@ -41,7 +41,7 @@ impl<R, G> Model for ParallelCollector<R, G> {
 }
 
 impl<R: Threads, G: Gate + Sync> ParallelCollector<R, G> {
-    /// A collector of so many copiers.
+    /// A collector of this number of copiers.
     pub fn new(runtime: R, gate: G, copiers: usize) -> ParallelCollector<R, G>
         requires some { 0 < copiers }
         requires few { copiers ≤ 16 }
@@ -135,10 +135,10 @@ impl<R: Threads, G: Gate + Sync> ParallelCollector<R, G> {
     }
 }
 
-// So many cells are copied by one copier before threads have begun.
+// This number of cells is copied by one copier before threads have begun.
 const FEW_CELLS: u64 = 65_536;
 
-// So many roots are looked at before.
+// At most this number of roots is looked at before.
 const FEW_ROOTS: usize = 4_096;
 
 // The cells of the condemned objects.

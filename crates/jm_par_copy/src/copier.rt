@@ -44,7 +44,7 @@ pub struct Copier {
 pub enum Task<'a> {
     /// It forwards its share of places that are reached, so that what lies there is copied, whoever holds what names it.
     Forward(&'a [Place]),
-    /// It scans the blocks that it was given, and then its own, so many in all.
+    /// It scans the blocks that it was given, and then its own, at most this number in all.
     Scan(usize),
 }
 
@@ -104,14 +104,14 @@ pub fn make_round<G: Gate>(alloc: Global, round: &Round<'_, G>, task: Task<'_>, 
     }
 }
 
-// Scans the blocks that the copier was given, and then its own, so many in all.
+// Scans the blocks that the copier was given, and then its own, at most `limit` in all.
 fn scan_blocks<G: Gate>(alloc: Global, round: &Round<'_, G>, limit: usize, copier: &mut Copier)
     requires ready { IsReadyFor round.now copier.old }
     ensures { IsScan round.now.from.stores.now round.now.from.roots.now copier.old copier.new }
 {
     let marks = copier.marks;
     let given = copier.given.len();
-    let count = lesser(given, limit);
+    let count = given.min(limit);
     let own = &mut copier.own;
     let Ok(()) = scan_all_given(alloc, round, own, &marks, &mut copier.given, count) else {
         copier.refused = true;
@@ -143,14 +143,6 @@ fn is_all(ended: bool, count: usize, given: usize) -> bool
     ensures given { result ≡ true → count ≡ given }
 {
     if count == given { ended } else { false }
-}
-
-// The lesser of two numbers.
-pub(crate) fn lesser(a: usize, b: usize) -> usize
-    ensures one { result ≤ a }
-    ensures other { result ≤ b }
-{
-    if a < b { a } else { b }
 }
 
 // One round of the only copier of a list.

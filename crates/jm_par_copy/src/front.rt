@@ -13,10 +13,10 @@ use jm_copy::{Copies, Named, Source, find, next, next_after, pass_on};
 use jm_values::Place;
 use std::alloc::{AllocError, Global};
 
-// So many objects and so many places of one copier are looked at.
+// At most this number of objects and of places of one copier is looked at.
 const MOST: usize = 8192;
 
-// A block that a copier was given counts as so many places.
+// A block that a copier was given counts as this number of places.
 const GIVEN: usize = 256;
 
 // So few places more than another has are not worth a round.
@@ -139,7 +139,7 @@ pub fn find_front(alloc: Global, copiers: &[Copier]) -> Result<Vec<Place>, Alloc
     Ok(Vec::new(alloc))
 }
 
-// So many references are many.
+// This number of references is much.
 const MANY: usize = 16;
 
 // Whether an object whose first reference this is may be a large array, which all copiers scan together.
@@ -166,7 +166,7 @@ pub fn is_stop(from: &Source<'_>, first: &Option<Named>, is_first: bool) -> bool
     }
 }
 
-// Whether so many condemned objects like the one at a place are too many for one copier. A few more than a large array's
+// Whether `count` condemned objects like the one at a place are too many for one copier. A few more than a large array's
 // are: then the object is surely alone in its block, behind which its copier has opened the next.
 #[inline(never)]
 fn is_much(from: &Source<'_>, place: Place, count: usize, is_first: bool) -> bool
@@ -188,7 +188,7 @@ fn cells_at(from: &Source<'_>, place: Place) -> u64
     }
 }
 
-/// Whether the condemned objects at places have so many cells that it is worth a thread to copy them.
+/// Whether the condemned objects at places have enough cells to be worth a thread.
 pub fn are_heavy(from: &Source<'_>, places: &[Place]) -> bool
     requires { AreLanes from.now.stores.now }
 {

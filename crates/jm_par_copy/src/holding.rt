@@ -40,7 +40,7 @@ fn scan_one<G: Gate>(
     Ok(())
 }
 
-/// Scans the first so many of the blocks that the copier was given, each to its end.
+/// Scans the first `count` blocks that the copier was given, each to its end.
 pub fn scan_all_given<G: Gate>(
     alloc: Global,
     round: &Round<'_, G>,

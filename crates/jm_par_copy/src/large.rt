@@ -14,7 +14,7 @@ use jm_heap::{Elements, Lies, Reference};
 use jm_values::Value;
 use std::alloc::{AllocError, Global};
 
-/// An array is large from so many references on.
+/// An array is large from this number of references on.
 pub(crate) const LARGE: usize = 65_536;
 
 /// The lane of the young.

@@ -32,7 +32,7 @@ fn open_to(alloc: Global, to: &mut BlockStore, number: usize) -> Result<(), Allo
     Ok(())
 }
 
-// Sees to it that a store has so many blocks.
+// Sees to it that a store has `count` blocks.
 fn open_all(alloc: Global, to: &mut BlockStore, count: usize) -> Result<(), AllocError>
     ensures same { (n : ℕ) → objects_in to.new n ≡ objects_in to.old n }
     ensures lane { to.new.lane ≡ to.old.lane }

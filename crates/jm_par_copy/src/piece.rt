@@ -16,7 +16,7 @@ use crate::gate::Gate;
 use crate::round::{Own, Round};
 use crate::step::forward;
 use jm_blocks::{Block, Position};
-use jm_copy::{Copies, Named, either, first_named, next_named};
+use jm_copy::{Copies, Named, first_named, next_named};
 use jm_values::{Place, Value};
 use std::alloc::{AllocError, Global};
 
@@ -113,7 +113,7 @@ fn scan_given<G: Gate>(
     while let Some(named) = next {
         let Named { number, end, .. } = named;
         let names = forward_given(alloc, round, own, piece, index, named)?;
-        points = either(points, names);
+        points = points || names;
         next = named_after(&piece.block, index, number, end);
     }
     piece.mark = index + 1;

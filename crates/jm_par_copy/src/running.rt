@@ -4,7 +4,7 @@ ghost use Rattle.std.specs.Prelude.{◌≡◌, ◌<◌, length, OnOk, true};
 ghost use Rattle.jm_par_copy.specs.Copiers.{AllRooted, AreBack, AreCopying, AreEnded, AreScannedPieces, HaveEnded, IsBack, KeepCopying, KeepPlaced, KeepSeats, KeepsCopying, KeepsSeat, NoneRefused};
 ghost use Rattle.jm_par_copy.specs.Steps.{AllReach, AreReadyFor, MakeRounds, MayMakeRounds, places_of};
 
-use crate::copier::{Copier, Task, lesser, make_rounds, make_rounds_here};
+use crate::copier::{Copier, Task, make_rounds, make_rounds_here};
 use crate::dealing::deal;
 use crate::front::{are_heavy, find_front};
 use crate::gate::Gate;
@@ -21,12 +21,12 @@ const FIRST_ROUND: usize = 4;
 
 const LONGEST_ROUND: usize = 1024;
 
-// How many blocks each copier scans in the round after one of so many.
+// How many blocks each copier scans in the round after one of `limit` blocks.
 fn longer(limit: usize) -> usize {
     if limit == 0 {
         return FIRST_ROUND;
     }
-    lesser(limit.saturating_add(limit), LONGEST_ROUND)
+    limit.saturating_add(limit).min(LONGEST_ROUND)
 }
 
 // Whether no growth was refused.

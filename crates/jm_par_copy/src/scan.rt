@@ -16,7 +16,7 @@ use crate::front::is_stop;
 use crate::gate::Gate;
 use crate::round::{Own, Round};
 use crate::step::forward;
-use jm_copy::{Marks, Named, either, next, next_after, note, pass_on};
+use jm_copy::{Marks, Named, next, next_after, note, pass_on};
 use jm_values::{Place, Value};
 use std::alloc::{AllocError, Global};
 
@@ -72,7 +72,7 @@ fn scan_object<G: Gate>(
     while let Some(named) = next {
         let Named { number, end, .. } = named;
         let names = forward_named(alloc, round, own, place, named)?;
-        points = either(points, names);
+        points = points || names;
         next = own.to.named_after(place, number, end);
     }
     Ok(points)
@@ -92,7 +92,7 @@ fn count_block(blocks: usize, last: u64, block: u64) -> usize {
 pub enum End {
     /// Nothing is left.
     All,
-    /// So many blocks were scanned.
+    /// The limit of blocks is reached.
     Blocks,
     /// The next object is too much for one copier.
     Much,
@@ -118,7 +118,7 @@ impl End {
     }
 }
 
-/// Scans the copier's own objects from two marks on, also those that the scan itself makes, until none is left, so many
+/// Scans the copier's own objects from two marks on, also those that the scan itself makes, until none is left, `limit`
 /// blocks were scanned, or an object comes that is too much for one copier: the marks after
 /// it, and why it ended. Of the old objects that it scans it lists the places of those that point to young ones.
 pub fn scan_own<G: Gate>(

@@ -30,7 +30,7 @@ fn own_young(alloc: Global, number: usize, copiers: usize) -> Result<BlockStore,
     Ok(store)
 }
 
-// Of so many blocks the number of a copier's own among the last ones, of which each copier has one. Where it has no block
+// Of `count` blocks the number of a copier's own among the last ones, of which each copier has one. Where it has no block
 // yet that is its first one, which is not there.
 fn last_own(count: usize, number: usize, copiers: usize) -> usize
     requires number { number < copiers }
@@ -61,7 +61,7 @@ fn first_block(old: &BlockStore, number: usize, copiers: usize) -> usize
     last + copiers
 }
 
-// A store of so many empty blocks. It is refused where a lane may not have so many.
+// A store of `count` empty blocks. It is refused where a lane may not have as many.
 fn empty_store(alloc: Global, lane: u64, count: usize) -> Result<BlockStore, AllocError>
     requires lane { (0 < lane) × (lane < 64) }
     ensures { IfOk result (λ s. s ≡ record { lane = lane; lists = replicate count [] }) }

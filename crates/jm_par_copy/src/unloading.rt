@@ -116,7 +116,7 @@ fn unload_all(
 }
 
 /// What all copiers hold, with the blocks that are set aside, in a store of the young and one of the old, whose lane
-/// is given. The store of the old is begun with so many empty blocks, of which no step is made: none of the copiers' old
+/// is given. The store of the old is begun with `empty` empty blocks, of which no step is made: none of the copiers' old
 /// blocks should lie among them. Where one does the answer is the same, and takes longer. The copiers keep their seats,
 /// also where a growth is refused.
 pub fn put_together(

@@ -1,10 +1,11 @@
-use Rattle.std.proofs.Common.{◌≡◌, Some, false, arith, ap, refl, sym, subst, ◌∙◌}
+use Rattle.std.proofs.Common.{◌≡◌, ◌||◌, Some, false, arith, ap, refl, sym, subst, ◌∙◌}
 use Rattle.std.proofs.Math.Seq.{take-length}
 use Rattle.jm_heap.specs.Packing.{kind_of}
 use Rattle.jm_blocks.specs.Objects.{with_value}
 use Rattle.jm_copy.specs.Pointing.{names_lane, points_to}
 use Rattle.jm_copy.proofs.Making.{extends_refl, extends_more, others_more}
 use Rattle.jm_copy.proofs.Scanning.{ended_set, Reaches, reaches, reaches_more, rest, rest_less}
+use Rattle.jm_copy.proofs.scan.scan_object.Goals.{then-points, else-points}
 use Rattle.jm_copy.proofs.scan.scan_object.Goals as goal
 
 pub loop-next-init : goal.loop-next-init
@@ -43,9 +44,10 @@ loop-next-preserved c =
     let next = c.in_ok-names.ensures.names there.0 there.1 in
     let names = next.2 ∙ ap (λ l. names_lane l next.0) stays.young_lane in
     let after = with_value there.0 c.in-Some.named.number next.0 in
+    let either : c.if-points.points ≡ (c.loop-next.points || c.in_ok-names.names) = elim c.if-points.branch [ then-points w ↦ w.points-is ∙ w.if-points.true ∙ ap (λ b. b || c.in_ok-names.names) (sym w.if-points.true) | else-points w ↦ w.points-is ∙ ap (λ b. b || c.in_ok-names.names) (sym w.if-points.false) ] in
     let on = reaches_more c.args.from.stores.now c.args.from.roots.now c.args.to.now c.loop-next.to c.forward_named.new.to c.args.place c.args.to.now.young.lane c.loop-next.points c.in_ok-names.names there.0 next.0 c.in-Some.named c.named_after-next.result at next.1 names c.in_ok-names.ensures.copying (c.named_after-next.ensures.names after next.1) in
     record {
-      there = (after, next.1, subst (λ b. Reaches c.args.from.stores.now c.args.from.roots.now c.args.to.now c.forward_named.new.to c.args.place c.args.to.now.young.lane b after c.named_after-next.result) (sym c.either-points.ensures) on);
+      there = (after, next.1, subst (λ b. Reaches c.args.from.stores.now c.args.from.roots.now c.args.to.now c.forward_named.new.to c.args.place c.args.to.now.young.lane b after c.named_after-next.result) (sym either) on);
       passed = others_more c.args.to.now c.loop-next.to c.forward_named.new.to c.args.place stays c.loop-next.invariant.passed c.in_ok-names.ensures.passed;
       extends = extends_more c.args.from.stores.now c.args.to.now c.loop-next.to c.forward_named.new.to c.loop-next.invariant.extends c.forward_named.ensures.extends;
     }

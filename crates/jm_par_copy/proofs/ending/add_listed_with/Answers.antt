@@ -2,7 +2,7 @@ use Rattle.std.proofs.Common.{◌≡◌, ◌++◌, Some, ◌∙◌, ap, arith, r
 use Rattle.std.specs.Prelude.{slice_get}
 use Rattle.std.proofs.lemmas.Option.{slice_get_read}
 use Rattle.jm_par_copy.specs.Notes.{listed_with}
-use Rattle.jm_par_copy.proofs.Begins.{append_none}
+use Rattle.std.proofs.lemmas.List.{append-nil}
 use Rattle.jm_par_copy.proofs.Noted.{drop_all, with_next}
 use Rattle.jm_par_copy.proofs.ending.add_listed_with.Goals as goal
 
@@ -21,4 +21,4 @@ returns c =
     let places = c.loop-piece.places.items in
     let over = c.loop-piece-test.false in
     let none = drop_all c.args.pieces.now c.loop-piece.piece-index (omega (arith, over)) in
-    sym (append_none places) ∙ ap (λ xs. places ++ listed_with xs) (sym none) ∙ c.loop-piece.invariant
+    sym (append-nil places) ∙ ap (λ xs. places ++ listed_with xs) (sym none) ∙ c.loop-piece.invariant

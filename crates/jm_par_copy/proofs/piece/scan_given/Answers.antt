@@ -1,4 +1,4 @@
-use Rattle.std.proofs.Common.{◌≡◌, ◌+◌, ◌∙◌, ℕ, ap, arith, false, refl, sym, subst, length, Some}
+use Rattle.std.proofs.Common.{◌≡◌, ◌||◌, ◌+◌, ◌∙◌, ℕ, ap, arith, false, refl, sym, subst, length, Some}
 use Rattle.std.specs.Prelude.{slice_get}
 use Rattle.std.proofs.Math.Seq.{take-length}
 use Rattle.jm_heap.specs.Packing.{kind_of}
@@ -11,6 +11,7 @@ use Rattle.jm_par_copy.specs.declared.piece.Piece.{Piece}
 use Rattle.jm_par_copy.proofs.Pieces.{given_here, marked, given_starts, given_passed, piece_is, piece_stays, place_same, mark_few, same_more}
 use Rattle.jm_par_copy.proofs.Skipped.{Reaches, at_end, at_reference, reaches, reaches_more, skipped_given}
 use Rattle.jm_par_copy.proofs.Claiming.{claiming_more, claiming_refl, claims_still, learns_more, learns_refl}
+use Rattle.jm_par_copy.proofs.piece.scan_given.Goals.{then-points, else-points}
 use Rattle.jm_par_copy.proofs.piece.scan_given.Goals as goal
 use Rattle.jm_values.proofs.Lists.{get_there}
 
@@ -94,6 +95,7 @@ loop-next-preserved g c =
     let next = e.names there.0 there.1 in
     let names = next.2 ∙ ap (λ l. names_lane l next.0) i.on.stays.young_lane in
     let object = with_value there.0 named.number next.0 in
+    let either : c.if-points.points ≡ (c.loop-next.points || c.in_ok-names.names) = elim c.if-points.branch [ then-points w ↦ w.points-is ∙ w.if-points.true ∙ ap (λ b. b || c.in_ok-names.names) (sym w.if-points.true) | else-points w ↦ w.points-is ∙ ap (λ b. b || c.in_ok-names.names) (sym w.if-points.false) ] in
     let same = same_more x y z i.same e.same in
     let where_ = place_same x y x.mark i.same ∙ ap (place_in y) (sym i.index) in
     let here : slice_get z.block x.mark ≡ Some object = ap (slice_get z.block) (sym i.index) ∙ next.1 in
@@ -104,7 +106,7 @@ loop-next-preserved g c =
     subst (λ q. IsGiven stores roots base held k rest (at done q (named.number + 1)) h' now z) (sym where_) (e.working base held k rest done was))
     names (c.named_after-next.ensures.names object next.1) in
     record {
-      there = (object, next.1, subst (λ b. Reaches after start.young.lane b object c.named_after-next.result) (sym c.either-points.ensures) on);
+      there = (object, next.1, subst (λ b. Reaches after start.young.lane b object c.named_after-next.result) (sym either) on);
       piece = piece_stays y z i.piece e.same (omega (arith, mark, f.mark, e.same.many));
       same = same;
       mark = f.mark ∙ i.mark;

@@ -1,4 +1,4 @@
-use Rattle.std.proofs.Common.{◌≡◌, ℕ, Some, false, arith, ap, refl, sym, subst, ◌∙◌}
+use Rattle.std.proofs.Common.{◌≡◌, ◌||◌, ℕ, Some, false, arith, ap, refl, sym, subst, ◌∙◌}
 use Rattle.std.proofs.Math.Seq.{take-length}
 use Rattle.jm_heap.specs.Packing.{kind_of}
 use Rattle.jm_blocks.specs.Objects.{Object, with_value}
@@ -8,6 +8,7 @@ use Rattle.jm_copy.proofs.Scanning.{ended_set, rest, rest_less}
 use Rattle.jm_par_copy.specs.Working.{ForwardsTo}
 use Rattle.jm_par_copy.proofs.Skipped.{Reaches, at_end, at_reference, reaches, reaches_more, skipped_own}
 use Rattle.jm_par_copy.proofs.Claiming.{claiming_more, claiming_refl, claims_still, learns_more, learns_refl}
+use Rattle.jm_par_copy.proofs.scan.scan_object.Goals.{then-points, else-points}
 use Rattle.jm_par_copy.proofs.scan.scan_object.Goals as goal
 
 pub loop-next-init : goal.loop-next-init
@@ -64,9 +65,10 @@ loop-next-preserved g c =
     let next = e.names there.0 there.1 in
     let names = next.2 ∙ ap (λ l. names_lane l next.0) i.on.stays.young_lane in
     let object = with_value there.0 named.number next.0 in
+    let either : c.if-points.points ≡ (c.loop-next.points || c.in_ok-names.names) = elim c.if-points.branch [ then-points w ↦ w.points-is ∙ w.if-points.true ∙ ap (λ b. b || c.in_ok-names.names) (sym w.if-points.true) | else-points w ↦ w.points-is ∙ ap (λ b. b || c.in_ok-names.names) (sym w.if-points.false) ] in
     let on = reaches_more forwards after start.young.lane c.loop-next.points c.in_ok-names.names there.0 next.0 named c.named_after-next.result (skipped_own stores roots h c.forward_named.new.own.seat.hand start now place object next.1) at (λ f base held k rest done w. e.working base held k rest done (f base held k rest done w)) names (c.named_after-next.ensures.names object next.1) in
     record {
-      there = (object, next.1, subst (λ b. Reaches after start.young.lane b object c.named_after-next.result) (sym c.either-points.ensures) on);
+      there = (object, next.1, subst (λ b. Reaches after start.young.lane b object c.named_after-next.result) (sym either) on);
       others = others_more start c.loop-next.own.to now place i.on.stays i.others e.others;
       learns = learns_more c.args.own.now.seat.hand c.loop-next.own.seat.hand c.forward_named.new.own.seat.hand c.loop-next.invariant.learns c.in_ok-names.ensures.learns;
       on = claiming_more c.args.own.now c.loop-next.own c.forward_named.new.own c.loop-next.invariant.on c.forward_named.ensures.on;

@@ -2,7 +2,7 @@ use Rattle.std.proofs.Common.{◌≡◌, ◌++◌, Some, ◌∙◌, ap, arith, r
 use Rattle.std.specs.Prelude.{slice_get}
 use Rattle.std.proofs.lemmas.Option.{slice_get_read}
 use Rattle.jm_par_copy.specs.Spans.{spans_of}
-use Rattle.jm_par_copy.proofs.Begins.{append_none}
+use Rattle.std.proofs.lemmas.List.{append-nil}
 use Rattle.jm_par_copy.proofs.Joined.{span_next}
 use Rattle.jm_par_copy.proofs.Noted.{drop_all}
 use Rattle.jm_par_copy.proofs.spans.join_spans.Goals as goal
@@ -25,4 +25,4 @@ returns c =
     let all = c.loop-copier.all.items in
     let over = c.loop-copier-test.false in
     let none = drop_all c.args.copiers.now c.loop-copier.copier-index (omega (arith, over)) in
-    sym (append_none all) ∙ ap (λ cs. all ++ spans_of cs) (sym none) ∙ c.loop-copier.invariant
+    sym (append-nil all) ∙ ap (λ cs. all ++ spans_of cs) (sym none) ∙ c.loop-copier.invariant
