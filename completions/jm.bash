@@ -1,0 +1,281 @@
+# Completion of jm for bash. Made by bench/user-files of what jm says of itself.
+_jm_words() {
+    mapfile -t COMPREPLY < <(compgen -W "$*" -- "$word")
+}
+_jm_directories() {
+    compopt -o filenames 2> /dev/null
+    mapfile -t COMPREPLY < <(compgen -d -- "${word//\\/}")
+}
+# The files whose names end so, and directories.
+_jm_files() {
+    local end
+    compopt -o filenames 2> /dev/null
+    (($#)) || set -- ""
+    mapfile -t COMPREPLY < <({ for end; do compgen -f -X "!*$end" -- "${word//\\/}"; done; compgen -d -- "${word//\\/}"; } | sort -u)
+}
+# How many arguments stand before the word, behind the command: neither options nor their values.
+_jm_arguments_before() {
+    local at count=0
+    for ((at = 2; at < COMP_CWORD; at++)); do
+        if [[ " $valued " == *" ${COMP_WORDS[at]} "* ]]; then
+            ((at++))
+            [[ ${COMP_WORDS[at]} != = ]] || ((at++))
+        elif [[ ${COMP_WORDS[at]} != -* ]]; then
+            ((count++))
+        fi
+    done
+    echo "$count"
+}
+_jm() {
+    local word=${COMP_WORDS[COMP_CWORD]} before=${COMP_WORDS[COMP_CWORD - 1]} names="" valued="" more="" at
+    local -a rest=()
+    COMPREPLY=()
+    if [[ $word == = ]]; then
+        word=""
+    elif [[ $before == = ]]; then
+        before=${COMP_WORDS[COMP_CWORD - 2]}
+    fi
+    if ((COMP_CWORD == 1)); then
+        _jm_words "run replay explore check why trace film asm dis debug explain version --help"
+        return
+    fi
+    case ${COMP_WORDS[1]} in
+        run)
+            names="--heap --copiers --schedule --steps --quantum --workers --stress --record --show-heap -h --help"
+            valued="--heap --copiers --schedule --steps --quantum --workers --stress --record"
+            case $before in
+                --heap)
+                    :
+                    return
+                    ;;
+                --copiers)
+                    :
+                    return
+                    ;;
+                --schedule)
+                    _jm_files
+                    return
+                    ;;
+                --steps)
+                    :
+                    return
+                    ;;
+                --quantum)
+                    :
+                    return
+                    ;;
+                --workers)
+                    :
+                    return
+                    ;;
+                --stress)
+                    _jm_words minor full
+                    return
+                    ;;
+                --record)
+                    _jm_files
+                    return
+                    ;;
+            esac
+            rest=('_jm_files .class .j')
+            more=1
+            ;;
+        replay)
+            names="--heap --copiers --show-heap -h --help"
+            valued="--heap --copiers"
+            case $before in
+                --heap)
+                    :
+                    return
+                    ;;
+                --copiers)
+                    :
+                    return
+                    ;;
+            esac
+            rest=('_jm_files' '_jm_files .class .j')
+            more=1
+            ;;
+        explore)
+            names="--switches --steps --runs --slice --outcome --heap -h --help"
+            valued="--switches --steps --runs --slice --outcome --heap"
+            case $before in
+                --switches)
+                    :
+                    return
+                    ;;
+                --steps)
+                    :
+                    return
+                    ;;
+                --runs)
+                    :
+                    return
+                    ;;
+                --slice)
+                    :
+                    return
+                    ;;
+                --outcome)
+                    :
+                    return
+                    ;;
+                --heap)
+                    :
+                    return
+                    ;;
+            esac
+            rest=('_jm_files .class .j')
+            more=1
+            ;;
+        check)
+            names="-h --help"
+            rest=('_jm_files .class .j')
+            more=1
+            ;;
+        why)
+            names="--heap --copiers --schedule --steps --quantum -h --help"
+            valued="--heap --copiers --schedule --steps --quantum"
+            case $before in
+                --heap)
+                    :
+                    return
+                    ;;
+                --copiers)
+                    :
+                    return
+                    ;;
+                --schedule)
+                    _jm_files
+                    return
+                    ;;
+                --steps)
+                    :
+                    return
+                    ;;
+                --quantum)
+                    :
+                    return
+                    ;;
+            esac
+            rest=('_jm_files .class .j')
+            more=1
+            ;;
+        trace)
+            names="--thread --from --most --heap --copiers --schedule --steps --quantum -h --help"
+            valued="--thread --from --most --heap --copiers --schedule --steps --quantum"
+            case $before in
+                --thread)
+                    :
+                    return
+                    ;;
+                --from)
+                    :
+                    return
+                    ;;
+                --most)
+                    :
+                    return
+                    ;;
+                --heap)
+                    :
+                    return
+                    ;;
+                --copiers)
+                    :
+                    return
+                    ;;
+                --schedule)
+                    _jm_files
+                    return
+                    ;;
+                --steps)
+                    :
+                    return
+                    ;;
+                --quantum)
+                    :
+                    return
+                    ;;
+            esac
+            rest=('_jm_files .class .j')
+            more=1
+            ;;
+        film)
+            names="--from --heap --copiers --schedule --steps --quantum --source -h --help"
+            valued="--from --heap --copiers --schedule --steps --quantum --source"
+            case $before in
+                --from)
+                    :
+                    return
+                    ;;
+                --heap)
+                    :
+                    return
+                    ;;
+                --copiers)
+                    :
+                    return
+                    ;;
+                --schedule)
+                    _jm_files
+                    return
+                    ;;
+                --steps)
+                    :
+                    return
+                    ;;
+                --quantum)
+                    :
+                    return
+                    ;;
+                --source)
+                    _jm_directories
+                    return
+                    ;;
+            esac
+            rest=('_jm_files .class .j')
+            more=1
+            ;;
+        asm)
+            names="-h --help"
+            rest=('_jm_files .j' '_jm_files .class')
+            ;;
+        dis)
+            names="--bare -h --help"
+            rest=('_jm_files .class .j')
+            ;;
+        debug)
+            names="--heap --copiers -h --help"
+            valued="--heap --copiers"
+            case $before in
+                --heap)
+                    :
+                    return
+                    ;;
+                --copiers)
+                    :
+                    return
+                    ;;
+            esac
+            rest=('_jm_files .class .j')
+            more=1
+            ;;
+        explain)
+            names="-h --help"
+            rest=('_jm_words 0 50 57 61 62')
+            ;;
+        version)
+            names="-h --help"
+            rest=()
+            ;;
+    esac
+    if [[ $word == -* ]]; then
+        _jm_words "$names"
+        return
+    fi
+    at=$(_jm_arguments_before)
+    [[ -z $more ]] || ((at < ${#rest[@]})) || at=$((${#rest[@]} - 1))
+    ${rest[at]}
+}
+complete -F _jm jm
