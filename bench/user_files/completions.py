@@ -12,8 +12,9 @@ def kind(option):
 
 
 def numbers(jm, command):
-    """Returns the numbers that a command takes as its argument, each with its name."""
-    return [(number, text.partition(": ")[0]) for number, text in jm.numbers] if command.name == "explain" else []
+    """Returns the numbers that a command takes as its argument, each with its name, or with its meaning where it is a status alone."""
+    told = [(number, *text.split(": ", 1)) for number, text in jm.numbers] if command.name == "explain" else []
+    return [(number, meaning if name == "status" else name) for number, name, meaning in told]
 
 
 def quoted(text):

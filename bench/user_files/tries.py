@@ -113,12 +113,13 @@ def offered(shell, script):
     return [part.split("\n") for part in (it.lstrip("\n") for it in parts)]
 
 
-def fitting(shell, offers):
-    """Yields what a shell offers that it should not, and what it should and does not."""
-    for (line, wanted, unwanted), offer in zip(LINES, offers):
-        there = {it.rstrip("/") for it in offer}
-        if any(it.rstrip("/") not in there for it in wanted) or any(it in there for it in unwanted):
-            yield f"{shell}: `{line}` offers {' '.join(sorted(there)) or 'nothing'}, and {' '.join(wanted)} is wanted"
+def misfit(shell, asked, offer):
+    """Returns what a shell offers behind a line that it should not, or does not and should."""
+    line, wanted, unwanted = asked
+    there = {it.rstrip("/") for it in offer}
+    if all(it.rstrip("/") in there for it in wanted) and not any(it in there for it in unwanted):
+        return None
+    return f"{shell}: `{line}` offers {' '.join(sorted(there)) or 'nothing'}, and {' '.join(wanted)} is wanted"
 
 
 def page_faults():
@@ -155,7 +156,7 @@ def faults():
     found = []
     for name, script in (("bash", BASH), ("fish", FISH), ("zsh", ZSH)):
         if shutil.which(name):
-            found += fitting(name, offered(name, script))
+            found += filter(None, (misfit(name, *it) for it in zip(LINES, offered(name, script))))
     found += page_faults() if shutil.which("man") else []
     found += syntax_faults(shutil.which("vim"))
     missing = [it for it in ("bash", "fish", "zsh", "man", "vim") if not shutil.which(it)]
