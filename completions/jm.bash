@@ -36,7 +36,7 @@ _jm() {
         before=${COMP_WORDS[COMP_CWORD - 2]}
     fi
     if ((COMP_CWORD == 1)); then
-        _jm_words "run replay explore check why trace film asm dis debug explain version --help"
+        _jm_words run replay explore check why trace film asm dis debug explain version -h --help
         return
     fi
     case ${COMP_WORDS[1]} in
@@ -44,36 +44,16 @@ _jm() {
             names="--heap --copiers --schedule --steps --quantum --workers --stress --record --show-heap -h --help"
             valued="--heap --copiers --schedule --steps --quantum --workers --stress --record"
             case $before in
-                --heap)
+                --heap | --copiers | --steps | --quantum | --workers)
                     :
                     return
                     ;;
-                --copiers)
-                    :
-                    return
-                    ;;
-                --schedule)
+                --schedule | --record)
                     _jm_files
-                    return
-                    ;;
-                --steps)
-                    :
-                    return
-                    ;;
-                --quantum)
-                    :
-                    return
-                    ;;
-                --workers)
-                    :
                     return
                     ;;
                 --stress)
                     _jm_words minor full
-                    return
-                    ;;
-                --record)
-                    _jm_files
                     return
                     ;;
             esac
@@ -84,11 +64,7 @@ _jm() {
             names="--heap --copiers --show-heap -h --help"
             valued="--heap --copiers"
             case $before in
-                --heap)
-                    :
-                    return
-                    ;;
-                --copiers)
+                --heap | --copiers)
                     :
                     return
                     ;;
@@ -100,27 +76,7 @@ _jm() {
             names="--switches --steps --runs --slice --outcome --heap -h --help"
             valued="--switches --steps --runs --slice --outcome --heap"
             case $before in
-                --switches)
-                    :
-                    return
-                    ;;
-                --steps)
-                    :
-                    return
-                    ;;
-                --runs)
-                    :
-                    return
-                    ;;
-                --slice)
-                    :
-                    return
-                    ;;
-                --outcome)
-                    :
-                    return
-                    ;;
-                --heap)
+                --switches | --steps | --runs | --slice | --outcome | --heap)
                     :
                     return
                     ;;
@@ -137,24 +93,12 @@ _jm() {
             names="--heap --copiers --schedule --steps --quantum -h --help"
             valued="--heap --copiers --schedule --steps --quantum"
             case $before in
-                --heap)
-                    :
-                    return
-                    ;;
-                --copiers)
+                --heap | --copiers | --steps | --quantum)
                     :
                     return
                     ;;
                 --schedule)
                     _jm_files
-                    return
-                    ;;
-                --steps)
-                    :
-                    return
-                    ;;
-                --quantum)
-                    :
                     return
                     ;;
             esac
@@ -165,36 +109,12 @@ _jm() {
             names="--thread --from --most --heap --copiers --schedule --steps --quantum -h --help"
             valued="--thread --from --most --heap --copiers --schedule --steps --quantum"
             case $before in
-                --thread)
-                    :
-                    return
-                    ;;
-                --from)
-                    :
-                    return
-                    ;;
-                --most)
-                    :
-                    return
-                    ;;
-                --heap)
-                    :
-                    return
-                    ;;
-                --copiers)
+                --thread | --from | --most | --heap | --copiers | --steps | --quantum)
                     :
                     return
                     ;;
                 --schedule)
                     _jm_files
-                    return
-                    ;;
-                --steps)
-                    :
-                    return
-                    ;;
-                --quantum)
-                    :
                     return
                     ;;
             esac
@@ -205,28 +125,12 @@ _jm() {
             names="--from --heap --copiers --schedule --steps --quantum --source -h --help"
             valued="--from --heap --copiers --schedule --steps --quantum --source"
             case $before in
-                --from)
-                    :
-                    return
-                    ;;
-                --heap)
-                    :
-                    return
-                    ;;
-                --copiers)
+                --from | --heap | --copiers | --steps | --quantum)
                     :
                     return
                     ;;
                 --schedule)
                     _jm_files
-                    return
-                    ;;
-                --steps)
-                    :
-                    return
-                    ;;
-                --quantum)
-                    :
                     return
                     ;;
                 --source)
@@ -249,11 +153,7 @@ _jm() {
             names="--heap --copiers -h --help"
             valued="--heap --copiers"
             case $before in
-                --heap)
-                    :
-                    return
-                    ;;
-                --copiers)
+                --heap | --copiers)
                     :
                     return
                     ;;
@@ -271,7 +171,7 @@ _jm() {
             ;;
     esac
     if [[ $word == -* ]]; then
-        _jm_words "$names"
+        _jm_words $names
         return
     fi
     at=$(_jm_arguments_before)

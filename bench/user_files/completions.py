@@ -62,14 +62,14 @@ _jm() {
         before=${COMP_WORDS[COMP_CWORD - 2]}
     fi
     if ((COMP_CWORD == 1)); then
-        _jm_words "@commands@"
+        _jm_words @first@
         return
     fi
     case ${COMP_WORDS[1]} in
 @cases@
     esac
     if [[ $word == -* ]]; then
-        _jm_words "$names"
+        _jm_words $names
         return
     fi
     at=$(_jm_arguments_before)
@@ -90,6 +90,13 @@ def bash_value(option):
     return ":" if known is None else " ".join(["_jm_files", *known])
 
 
+def bash_values(options):
+    """Yields the lines that complete the values of options, those that are completed alike together."""
+    for how in dict.fromkeys(map(bash_value, options)):
+        yield f"{' | '.join(name for it in options if bash_value(it) == how for name in it.names)})"
+        yield from (f"    {it}" for it in (how, "return", ";;"))
+
+
 def bash_case(jm, command):
     """Returns the lines of a command."""
     valued = [it for it in command.options if it.value]
@@ -97,9 +104,8 @@ def bash_case(jm, command):
     rest = [f"_jm_words {listed}"] if listed else [bash_value(it) for it in command.arguments]
     lines = [f"{command.name})", f'    names="{" ".join(name for it in command.options for name in it.names)}"']
     if valued:
-        lines += [f'    valued="{" ".join(name for it in valued for name in it.names)}"', "    case $before in"]
-        lines += [f"        {' | '.join(it.names)})\n                    {bash_value(it)}\n                    return\n                    ;;" for it in valued]
-        lines.append("    esac")
+        lines.append(f'    valued="{" ".join(name for it in valued for name in it.names)}"')
+        lines += ["    case $before in", *(f"        {it}" for it in bash_values(valued)), "    esac"]
     lines.append(f"    rest=({' '.join(map(quoted, rest))})")
     lines += ["    more=1"] if any(it.is_list for it in command.arguments) else []
     return "\n".join(f"        {it}" for it in [*lines, "    ;;"])
@@ -107,9 +113,9 @@ def bash_case(jm, command):
 
 def bash(jm):
     """Returns the completion for bash."""
-    commands = " ".join(it.name for it in jm.commands)
+    first = [it.name for it in jm.commands] + [name for it in jm.options for name in it.names]
     cases = "\n".join(bash_case(jm, it) for it in jm.commands)
-    return f"# Completion of jm for bash. {MADE}" + BASH.replace("@commands@", f"{commands} --help").replace("@cases@", cases)
+    return f"# Completion of jm for bash. {MADE}" + BASH.replace("@first@", " ".join(first)).replace("@cases@", cases)
 
 
 # ---- zsh
@@ -130,7 +136,7 @@ _jm() {
   commands=(
 @commands@
   )
-  _arguments -C '(- *)'{-h,--help}'[Print help]' '1: :->command' '*:: :->arguments'
+  _arguments -C @options@ '1: :->command' '*:: :->arguments'
   case $state in
     command)
       _describe -t commands command commands
@@ -146,6 +152,10 @@ _jm() {
 
 _jm "$@"
 """
+
+
+# Options behind which nothing follows.
+ENDING = ("--help", "--version")
 
 
 def escaped(text):
@@ -169,8 +179,9 @@ def zsh_option(option):
     """Returns the words of an option."""
     told = f"[{escaped(option.help)}]"
     if not option.value:
-        names = "{" + ",".join(option.names) + "}" if len(option.names) > 1 else ""
-        return f"'(- *)'{names}{quoted(told)}" if names else quoted(option.names[0] + told)
+        alone = "(- *)" if option.names[-1] in ENDING else f"({' '.join(option.names)})"
+        names = f"{{{','.join(option.names)}}}" if len(option.names) > 1 else option.names[0]
+        return f"{quoted(alone)}{names}{quoted(told)}"
     return quoted(f"{'*' if option.is_list else ''}{option.names[-1]}={told}:{option.value}:{zsh_value(option)}")
 
 
@@ -190,6 +201,7 @@ def zsh(jm):
     commands = "\n".join(f"    {quoted(f'{it.name}:{it.about}')}" for it in jm.commands)
     cases = "\n".join(zsh_case(jm, it) for it in jm.commands)
     made = ZSH.replace("@numbers@", numbered).replace("@commands@", commands).replace("@cases@", cases)
+    made = made.replace("@options@", " ".join(map(zsh_option, jm.options)))
     return f"#compdef jm\n# Completion of jm for zsh. {MADE}\n{made}"
 
 
@@ -216,25 +228,29 @@ def fish_value(option):
     return "-x" if known is None else "-r -F" if not known else f"-x -a '(__jm_files {' '.join(known)})'"
 
 
+def fish_option(seen, option):
+    """Returns the line of an option."""
+    names = " ".join(f"-l {name[2:]}" if name.startswith("--") else f"-s {name[1:]}" for name in option.names)
+    return f"{seen} {names} {fish_value(option) + ' ' if option.value else ''}-d {quoted(option.help)}"
+
+
 def fish_command(jm, command):
     """Yields the lines of a command."""
     seen = f"complete -c jm -n '__fish_seen_subcommand_from {command.name}'"
-    for it in command.options:
-        names = " ".join(f"-l {name[2:]}" if name.startswith("--") else f"-s {name[1:]}" for name in it.names)
-        yield f"{seen} {names} {fish_value(it) + ' ' if it.value else ''}-d {quoted(it.help)}"
+    yield from (fish_option(seen, it) for it in command.options)
     for number, name in numbers(jm, command):
         yield f"{seen} -k -a {number} -d {quoted(name)}"
     kinds = [kind(it) for it in command.arguments if kind(it) is not None]
     if () in kinds:
         yield f"{seen} -F"
     elif kinds:
-        ends = " ".join(dict.fromkeys(end for it in kinds for end in it))
-        yield f"{seen} -a '(__jm_files {ends})'"
+        yield f"{seen} -a '(__jm_files {' '.join(dict.fromkeys(end for it in kinds for end in it))})'"
 
 
 def fish(jm):
     """Returns the completion for fish."""
-    lines = [f"# Completion of jm for fish. {MADE}{FISH}", "complete -c jm -f", "complete -c jm -n __fish_use_subcommand -s h -l help -d 'Print help'"]
-    lines += [f"complete -c jm -n __fish_use_subcommand -a {it.name} -d {quoted(it.about)}" for it in jm.commands]
+    first = "complete -c jm -n __fish_use_subcommand"
+    lines = [f"# Completion of jm for fish. {MADE}{FISH}", "complete -c jm -f", *(fish_option(first, it) for it in jm.options)]
+    lines += [f"{first} -a {it.name} -d {quoted(it.about)}" for it in jm.commands]
     lines += [line for it in jm.commands for line in fish_command(jm, it)]
     return "\n".join(lines) + "\n"

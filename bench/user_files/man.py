@@ -48,6 +48,7 @@ def page(jm):
         ".SH NAME", f"jm \\- {plain(jm.about[0].lower() + jm.about[1:])}",
         ".SH SYNOPSIS", *(part for it in jm.commands for part in (usage(it.usage), ".br")),
         ".SH DESCRIPTION", f"{plain(jm.about)}.", *paragraphs(jm.more),
+        ".SH OPTIONS", *listed([(name_of(it), f"{it.help}.") for it in jm.options]),
         ".SH COMMANDS", *(line for it in jm.commands for line in command(it)),
         ".SH NUMBERS", "What the numbers of refusals, of stops and of exit statuses mean:",
         *listed([(f"\\fB{number}\\fR {plain(text.partition(': ')[0])}", f"{text.partition(': ')[2]}.") for number, text in jm.numbers]),

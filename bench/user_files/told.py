@@ -5,7 +5,7 @@ import re
 import subprocess
 import tempfile
 
-Jm = collections.namedtuple("Jm", "version about more commands numbers")
+Jm = collections.namedtuple("Jm", "version about more options commands numbers")
 Command = collections.namedtuple("Command", "name about usage arguments options more")
 # An argument has no names. `values` are the words that stand for the value, and `is_list` says that it may stand several times.
 Option = collections.namedtuple("Option", "names value help values is_list")
@@ -49,7 +49,8 @@ def sections(text):
 
 def is_list(jm, command, name, value):
     """Says whether an option may stand several times: whether jm says that it cannot."""
-    return bool(value) and "multiple times" not in said(jm, command, f"{name}={value}", f"{name}={value}")
+    words = [command] if command else []
+    return bool(value) and "multiple times" not in said(jm, *words, f"{name}={value}", f"{name}={value}")
 
 
 def option_of(jm, command, names, text):
@@ -79,5 +80,6 @@ def numbers_of(jm):
 def told(jm):
     """Returns what a program says of itself."""
     parts, about, _, more = sections(said(jm, "--help"))
+    options = [option_of(jm, "", *it) for it in parts["Options:"]]
     commands = [command_of(jm, name) for name, _ in parts["Commands:"] if name != "help"]
-    return Jm(said(jm, "version").strip(), about, more, commands, numbers_of(jm))
+    return Jm(said(jm, "version").strip(), about, more, options, commands, numbers_of(jm))
