@@ -1,4 +1,4 @@
-# Completion of jm for bash. Made by bench/user-files of what jm says of itself.
+# Completion of jm for bash, to be sourced, or as ~/.local/share/bash-completion/completions/jm. Made by bench/user-files of what jm says of itself.
 _jm_words() {
     mapfile -t COMPREPLY < <(compgen -W "$*" -- "$word")
 }

@@ -1,4 +1,4 @@
-# Completion of jm for fish. Made by bench/user-files of what jm says of itself.
+# Completion of jm for fish, for ~/.config/fish/completions. Made by bench/user-files of what jm says of itself.
 # The files whose names end so, and directories.
 function __jm_files
     set -l found (complete -C "__fish_command_without_completions "(commandline -ct))

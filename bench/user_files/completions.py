@@ -115,7 +115,8 @@ def bash(jm):
     """Returns the completion for bash."""
     first = [it.name for it in jm.commands] + [name for it in jm.options for name in it.names]
     cases = "\n".join(bash_case(jm, it) for it in jm.commands)
-    return f"# Completion of jm for bash. {MADE}" + BASH.replace("@first@", " ".join(first)).replace("@cases@", cases)
+    head = f"# Completion of jm for bash, to be sourced, or as ~/.local/share/bash-completion/completions/jm. {MADE}"
+    return head + BASH.replace("@first@", " ".join(first)).replace("@cases@", cases)
 
 
 # ---- zsh
@@ -202,7 +203,7 @@ def zsh(jm):
     cases = "\n".join(zsh_case(jm, it) for it in jm.commands)
     made = ZSH.replace("@numbers@", numbered).replace("@commands@", commands).replace("@cases@", cases)
     made = made.replace("@options@", " ".join(map(zsh_option, jm.options)))
-    return f"#compdef jm\n# Completion of jm for zsh. {MADE}\n{made}"
+    return f"#compdef jm\n# Completion of jm for zsh, for a folder of $fpath. {MADE}\n{made}"
 
 
 # ---- fish
@@ -250,7 +251,7 @@ def fish_command(jm, command):
 def fish(jm):
     """Returns the completion for fish."""
     first = "complete -c jm -n __fish_use_subcommand"
-    lines = [f"# Completion of jm for fish. {MADE}{FISH}", "complete -c jm -f", *(fish_option(first, it) for it in jm.options)]
+    lines = [f"# Completion of jm for fish, for ~/.config/fish/completions. {MADE}{FISH}", "complete -c jm -f", *(fish_option(first, it) for it in jm.options)]
     lines += [f"{first} -a {it.name} -d {quoted(it.about)}" for it in jm.commands]
     lines += [line for it in jm.commands for line in fish_command(jm, it)]
     return "\n".join(lines) + "\n"

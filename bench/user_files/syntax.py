@@ -123,7 +123,7 @@ def vim(words):
     """Returns the syntax for vim: of two that begin at one place the later one is taken."""
     flagged, others = parted(words.directives)
     lines = [
-        '" Vim syntax file of the texts that `jm asm` reads. Made by bench/user-files of the definitions in crates/.',
+        '" Vim syntax file of the texts that `jm asm` reads, for ~/.vim/syntax. Made by bench/user-files of the definitions in crates/.',
         'if exists("b:current_syntax")', "  finish", "endif", "syn case match",
         '" (a word is whatever stands between blanks)', "syn iskeyword 33-126,128-255", *vim_words(words),
         r"syn match jasminLabel contained /\S\+:\S\@!/",
@@ -146,4 +146,4 @@ def vim(words):
 
 def filetype(_words):
     """Returns vim's words on which files are such texts."""
-    return '" Made by bench/user-files: the texts that `jm asm` reads.\nau BufRead,BufNewFile *.j setfiletype jasmin\n'
+    return '" Which files are texts that `jm asm` reads, for ~/.vim/ftdetect. Made by bench/user-files.\nau BufRead,BufNewFile *.j setfiletype jasmin\n'

@@ -1,2 +1,2 @@
-" Made by bench/user-files: the texts that `jm asm` reads.
+" Which files are texts that `jm asm` reads, for ~/.vim/ftdetect. Made by bench/user-files.
 au BufRead,BufNewFile *.j setfiletype jasmin

@@ -1,4 +1,4 @@
-" Vim syntax file of the texts that `jm asm` reads. Made by bench/user-files of the definitions in crates/.
+" Vim syntax file of the texts that `jm asm` reads, for ~/.vim/syntax. Made by bench/user-files of the definitions in crates/.
 if exists("b:current_syntax")
   finish
 endif
