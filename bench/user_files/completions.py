@@ -192,7 +192,8 @@ def zsh_case(jm, command):
     for at, it in enumerate(command.arguments, 1):
         how = "_jm_numbers" if numbers(jm, command) else zsh_value(it)
         words.append(quoted(f"{'*' if it.is_list else at}:{it.value}:{how}"))
-    return "\n".join([f"        {command.name})", "          _arguments -s -S \\", *(f"            {it} \\" for it in words[:-1]), f"            {words[-1]}", "          ;;"])
+    spread = " \\\n".join(["          _arguments -s -S", *(f"            {it}" for it in words)])
+    return f"        {command.name})\n{spread}\n          ;;"
 
 
 def zsh(jm):
