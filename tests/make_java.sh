@@ -1,7 +1,8 @@
 #!/bin/sh
-# Compiles the Java programs under data/java, data/explore and data/refused again, and prints
-# their tables, and what a real Java prints when it runs those that have a main
-# (data/java/printed.txt) and the worked class file (data/printed.txt). Where an
+# Compiles the Java programs under data/java, data/explore, data/refused and data/first_year
+# again, and prints their tables, and what a real Java prints when it runs those that have a
+# main (data/java/printed.txt, data/first_year/printed.txt) and the worked class file
+# (data/printed.txt). Where an
 # exception ends the first thread, what Java says of it stands there in the words of
 # jm run. A constant is read when the program runs only where the compiler knows
 # none: Reading is compiled with the classes of stub/. Needs java, javac and javap
@@ -71,3 +72,15 @@ for source in *.java; do
         *) compile --release 8 "$source" ;;
     esac
 done
+
+cd ../first_year
+rm -f ./*.class
+compile --release 8 *.java
+for source in *.java; do
+    name=${source%.java}
+    # a loop without an end
+    [ "$name" != Forever ] || continue
+    echo "== $name"
+    # (Quiz is the one that reads)
+    echo 12 | java -cp . "$name" 2> "$folder/said" || true
+done > printed.txt

@@ -1,0 +1,181 @@
+# Completion of jm for bash, to be sourced, or as ~/.local/share/bash-completion/completions/jm. Made by bench/user-files of what jm says of itself.
+_jm_words() {
+    mapfile -t COMPREPLY < <(compgen -W "$*" -- "$word")
+}
+_jm_directories() {
+    compopt -o filenames 2> /dev/null
+    mapfile -t COMPREPLY < <(compgen -d -- "${word//\\/}")
+}
+# The files whose names end so, and directories.
+_jm_files() {
+    local end
+    compopt -o filenames 2> /dev/null
+    (($#)) || set -- ""
+    mapfile -t COMPREPLY < <({ for end; do compgen -f -X "!*$end" -- "${word//\\/}"; done; compgen -d -- "${word//\\/}"; } | sort -u)
+}
+# How many arguments stand before the word, behind the command: neither options nor their values.
+_jm_arguments_before() {
+    local at count=0
+    for ((at = 2; at < COMP_CWORD; at++)); do
+        if [[ " $valued " == *" ${COMP_WORDS[at]} "* ]]; then
+            ((at++))
+            [[ ${COMP_WORDS[at]} != = ]] || ((at++))
+        elif [[ ${COMP_WORDS[at]} != -* ]]; then
+            ((count++))
+        fi
+    done
+    echo "$count"
+}
+_jm() {
+    local word=${COMP_WORDS[COMP_CWORD]} before=${COMP_WORDS[COMP_CWORD - 1]} names="" valued="" more="" at
+    local -a rest=()
+    COMPREPLY=()
+    if [[ $word == = ]]; then
+        word=""
+    elif [[ $before == = ]]; then
+        before=${COMP_WORDS[COMP_CWORD - 2]}
+    fi
+    if ((COMP_CWORD == 1)); then
+        _jm_words run replay explore check why trace film asm dis debug explain version -h --help
+        return
+    fi
+    case ${COMP_WORDS[1]} in
+        run)
+            names="--heap --copiers --schedule --steps --quantum --workers --stress --record --show-heap -h --help"
+            valued="--heap --copiers --schedule --steps --quantum --workers --stress --record"
+            case $before in
+                --heap | --copiers | --steps | --quantum | --workers)
+                    :
+                    return
+                    ;;
+                --schedule | --record)
+                    _jm_files
+                    return
+                    ;;
+                --stress)
+                    _jm_words minor full
+                    return
+                    ;;
+            esac
+            rest=('_jm_files .class .j')
+            more=1
+            ;;
+        replay)
+            names="--heap --copiers --show-heap -h --help"
+            valued="--heap --copiers"
+            case $before in
+                --heap | --copiers)
+                    :
+                    return
+                    ;;
+            esac
+            rest=('_jm_files' '_jm_files .class .j')
+            more=1
+            ;;
+        explore)
+            names="--switches --steps --runs --slice --outcome --heap -h --help"
+            valued="--switches --steps --runs --slice --outcome --heap"
+            case $before in
+                --switches | --steps | --runs | --slice | --outcome | --heap)
+                    :
+                    return
+                    ;;
+            esac
+            rest=('_jm_files .class .j')
+            more=1
+            ;;
+        check)
+            names="-h --help"
+            rest=('_jm_files .class .j')
+            more=1
+            ;;
+        why)
+            names="--heap --copiers --schedule --steps --quantum -h --help"
+            valued="--heap --copiers --schedule --steps --quantum"
+            case $before in
+                --heap | --copiers | --steps | --quantum)
+                    :
+                    return
+                    ;;
+                --schedule)
+                    _jm_files
+                    return
+                    ;;
+            esac
+            rest=('_jm_files .class .j')
+            more=1
+            ;;
+        trace)
+            names="--thread --from --most --heap --copiers --schedule --steps --quantum -h --help"
+            valued="--thread --from --most --heap --copiers --schedule --steps --quantum"
+            case $before in
+                --thread | --from | --most | --heap | --copiers | --steps | --quantum)
+                    :
+                    return
+                    ;;
+                --schedule)
+                    _jm_files
+                    return
+                    ;;
+            esac
+            rest=('_jm_files .class .j')
+            more=1
+            ;;
+        film)
+            names="--from --heap --copiers --schedule --steps --quantum --source -h --help"
+            valued="--from --heap --copiers --schedule --steps --quantum --source"
+            case $before in
+                --from | --heap | --copiers | --steps | --quantum)
+                    :
+                    return
+                    ;;
+                --schedule)
+                    _jm_files
+                    return
+                    ;;
+                --source)
+                    _jm_directories
+                    return
+                    ;;
+            esac
+            rest=('_jm_files .class .j')
+            more=1
+            ;;
+        asm)
+            names="-h --help"
+            rest=('_jm_files .j' '_jm_files .class')
+            ;;
+        dis)
+            names="--bare -h --help"
+            rest=('_jm_files .class .j')
+            ;;
+        debug)
+            names="--heap --copiers -h --help"
+            valued="--heap --copiers"
+            case $before in
+                --heap | --copiers)
+                    :
+                    return
+                    ;;
+            esac
+            rest=('_jm_files .class .j')
+            more=1
+            ;;
+        explain)
+            names="-h --help"
+            rest=('_jm_words 0 1 2 3 4 5 6 7 8 9 10 11 12 13 14 15 20 21 22 23 24 30 31 32 33 34 35 36 40 41 42 43 45 46 50 51 52 53 54 55 56 57 60 61 62 63 64 65 70 71 80 81 90')
+            ;;
+        version)
+            names="-h --help"
+            rest=()
+            ;;
+    esac
+    if [[ $word == -* ]]; then
+        _jm_words $names
+        return
+    fi
+    at=$(_jm_arguments_before)
+    [[ -z $more ]] || ((at < ${#rest[@]})) || at=$((${#rest[@]} - 1))
+    ${rest[at]}
+}
+complete -F _jm jm
