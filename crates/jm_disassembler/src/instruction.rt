@@ -9,10 +9,10 @@ ghost use Rattle.jm_program.specs.JasminInstructions.{dimensions_line};
 ghost use Rattle.jm_program.specs.Mnemonics.{branch_mnemonic, field_mnemonic, invoke_mnemonic, type_mnemonic};
 ghost use Rattle.jm_disassembler.specs.Instructions.{front, target_row, pair_row, table_rows, lookup_rows, plain_text, constant_text, count_text, instr_text, rows_text};
 
-use crate::string::write_string;
 use jm_program::{
     ArrayOp, Branch, ClassRef, Comparison, Constant, Equality, FieldOp, Instr, InvokeOp,
-    LookupSwitch, MethodDescriptor, MethodRef, OperandType, Plain, SwitchPair, TableSwitch, TypeOp,
+    LookupSwitch, MethodDescriptor, MethodRef, OperandType, Plain, StringUnits, SwitchPair,
+    TableSwitch, TypeOp,
 };
 use std::alloc::AllocError;
 use std::fmt::Write;
@@ -109,9 +109,8 @@ fn write_constant(out: &mut String, constant: &Constant) -> Result<(), AllocErro
         Constant::Int(number) => write!(out, "ldc             {number}"),
         Constant::Long(number) => write!(out, "ldc2_w          {number}"),
         Constant::String(units) => {
-            out.push_str("ldc             \"")?;
-            write_string(out, units.get().as_slice())?;
-            out.push_str("\"")
+            let text = StringUnits(units.get().as_slice());
+            write!(out, "ldc             \"{text}\"")
         }
     }
 }

@@ -16,7 +16,6 @@ mod mark;
 mod member;
 mod names;
 mod said;
-mod string;
 mod unsaid;
 
 pub use disassembly::{class_text, disassemble, first_unsaid};

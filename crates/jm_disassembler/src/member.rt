@@ -8,8 +8,7 @@ ghost use Rattle.jm_disassembler.specs.Texts.{marked_field, fields_text, marked_
 use crate::body::write_code;
 use crate::flags::{write_member_flags, write_member_note};
 use crate::mark::{write_field_mark, write_method_mark};
-use crate::string::write_string;
-use jm_program::{Code, Constant, Field, Method};
+use jm_program::{Code, Constant, Field, Method, StringUnits};
 use std::alloc::{AllocError, Global};
 use std::fmt::Write;
 
@@ -23,9 +22,8 @@ fn write_value(out: &mut String, value: &Option<Constant>) -> Result<(), AllocEr
         Some(Constant::Int(number)) => write!(out, " = {number}"),
         Some(Constant::Long(number)) => write!(out, " = {number}"),
         Some(Constant::String(units)) => {
-            out.push_str(" = \"")?;
-            write_string(out, units.get().as_slice())?;
-            out.push_str("\"")
+            let text = StringUnits(units.get().as_slice());
+            write!(out, " = \"{text}\"")
         }
     }
 }

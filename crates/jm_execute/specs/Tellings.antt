@@ -3,9 +3,9 @@ use Rattle.std.specs.Prelude.{◌≡◌, ◌⊎◌, ℕ, List, [], Option, Some,
 use Rattle.jm_film.specs.FilmPages.{film_events, film_page}
 use Rattle.jm_film.specs.declared.window.Window.{Window}
 use Rattle.jm_page.specs.declared.source.Source.{Source}
-use Rattle.jm_page.specs.Writing.{Begins}
 use Rattle.jm_page.specs.declared.writer.PageFault.{PageFault}
 use Rattle.jm_page.specs.declared.writer.PageFault.TheVariants as page
+use Rattle.jm_program.specs.Lists.{Begins}
 use Rattle.jm_program.specs.declared.class.ClassParts.{ClassParts}
 use Rattle.jm_trace.specs.Traces.{trace}
 use Rattle.jm_trace.specs.declared.shown.Shown.{Shown}

@@ -3,6 +3,7 @@ use Rattle.std.proofs.Common.{◌≡◌, ◌⊎◌, ℕ, suc, ◌+◌, ◌≤◌
 use Rattle.std.proofs.Math.Seq.{take-append_seam}
 use Rattle.std.proofs.lemmas.List.{length-take-le, take-append-le}
 use Rattle.std.proofs.lemmas.List.Quantifiers.{all_pairs_push}
+use Rattle.jm_program.specs.Lists.{Begins}
 use Rattle.jm_world.specs.World.{World}
 use Rattle.jm_world.specs.Run.{after}
 use Rattle.jm_world.specs.declared.event.Event.TheVariants.{Step}
@@ -10,7 +11,7 @@ use Rattle.jm_explore.specs.Lists.{Each, HasOne}
 use Rattle.jm_explore.specs.Branches.{Advances, Leaves}
 use Rattle.jm_machine.specs.View.{MachineView, MatchesWorld}
 use Rattle.jm_explore.specs.Outcomes.{AreOther, End, Found, HasFewest, IsTrueOf, outcome_of}
-use Rattle.jm_explore.specs.Searches.{AllBefore, Begins, Has, IsBranch, IsComplete, IsTold, Known, Made, Making, Notes, Rising, Searching, Stands, Tried, events_to}
+use Rattle.jm_explore.specs.Searches.{AllBefore, Has, IsBranch, IsComplete, IsTold, Known, Made, Making, Notes, Rising, Searching, Stands, Tried, events_to}
 use Rattle.jm_explore.specs.Switches.{all_go, can_go, next_turn, switch, switches, turn_from, world_after, IsEnd, IsSchedule}
 use Rattle.jm_explore.specs.declared.branch.Branch.{Branch}
 use Rattle.jm_explore.specs.declared.turn.Turn.{Turn}

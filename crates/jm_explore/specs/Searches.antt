@@ -1,6 +1,7 @@
 -- The state of a search: what is told, and what is still to be tried.
 use Rattle.std.specs.Prelude.{◌≡◌, ◌⊎◌, ℕ, ◌+◌, ◌≤◌, ◌<◌, List, [], ◌∷◌, ◌++◌, Bool, true, false, length, map, take}
 use Rattle.std.specs.List.{AllPairs}
+use Rattle.jm_program.specs.Lists.{Begins}
 use Rattle.jm_world.specs.World.{World}
 use Rattle.jm_machine.specs.View.{MachineView, MatchesWorld}
 use Rattle.jm_explore.specs.Lists.{Each, HasOne}
@@ -24,9 +25,6 @@ abbrev pub IsComplete : World → ℕ → ℕ → ℕ → List Found → Type 0
 IsComplete w slice most steps found = (ts : List ℕ) → IsSchedule w slice most steps ts → IsTold w steps found ts
 
 -- ---- the path and its branches
-
-abbrev pub Begins : List ℕ → List ℕ → Type 0
-Begins start whole = (rest : List ℕ) × (whole ≡ start ++ rest)
 
 -- the events of a branch of a schedule
 abbrev pub events_to : List ℕ → Branch → List ℕ

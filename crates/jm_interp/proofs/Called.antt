@@ -353,3 +353,17 @@ module _ {H : Type 0} {content : H → Content ClassId} {at : At} {number : ℕ}
             ap (λ (s : State H). option_map (name_of (content s.heap)) monitor) only in
             does_as h.on (same_matches h.on stays) calls_is
             (then_made (still_on h stays) own begins_then (own_enters h stays same done) (begins is count monitor k operand shallow made names stands))
+
+-- one that enters no monitor begins at once
+module _ {H : Type 0} {content : H → Content ClassId} {at : At} {number : ℕ} {found : FoundMethod} {code : Code}
+    (is : IsCalled at.linked.now number found code) (count : ℕ) {old : State H} (h : InMethod content at old) {d : held.Thread} {n : ℕ}
+    (got : d ≡ slice_index_or old.threads.items at.index d) (len : n ≡ vec_len d.frames) (few : n < 512) where
+  no_operand : IsOperand h.frame None
+  no_operand q a = absurd a
+
+  pub calls_free : {u : held.Thread} {frame : FrameView} → frame ≡ called is None (on_top count h.frame.activation.stack)
+      → Stands u (Method frame ∷ Method (caller count h.frame) ∷ h.below) (running h.on.object None)
+      → Does content at old (Ok Done) (with_thread_at old at.index u) (in_method (calls_with found code count None))
+  calls_free made stands =
+      does_as h.on (λ w m. m) (calls_is is count None h no_operand got len few h.on.stands.stands)
+      (begins is count None h no_operand (shallow is count None h no_operand got len few h.on.stands.stands) made refl stands)

@@ -79,3 +79,4 @@ pub mod Started
 pub mod Starts
 pub mod ThreadMethods
 pub mod Entries
+pub mod CallRows

@@ -343,7 +343,7 @@ module _ {H : Type 0} {content : H → Content ClassId} {at : At} {old : State H
           (handed_is w m)
 
       module _ {e : held.Thread} (t : held.Thread) (again : e ≡ slice_index_or old.threads.items at.index e) where
-        returns_below : Leaving (Ok tt) x e t → Does content at old (Ok Done) (with_thread_at old at.index t) handing
+        pub returns_below : Leaving (Ok tt) x e t → Does content at old (Ok Done) (with_thread_at old at.index t) handing
         returns_below leaving = by below.next on_two two_return (leaving h.frame below.next below.rest _ (read on_two again))
           where
             by : (b : StackFrame) (k : OnThread content at old (Method h.frame ∷ b ∷ below.rest) None) → ((w : World) → Matches

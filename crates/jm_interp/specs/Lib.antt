@@ -30,5 +30,6 @@ pub mod Starting
 pub mod Entering
 pub mod PlainRuns
 pub mod MethodRuns
+pub mod CallRows
 pub mod FrameRows
 pub mod ThreadRuns

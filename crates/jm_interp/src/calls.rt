@@ -60,10 +60,10 @@ pub(crate) fn call<H: Heap>(
     }
 }
 
-// The frame of a method that is called by the top frame, with so many of its operands, in memory that
-// the top frame keeps, if it keeps some; the thread has room for it then, and its frames stay. `AllocError`: a growth was refused.
+/// The frame of a method that is called by the top frame, with so many of its operands, in memory that
+/// the top frame keeps, if it keeps some; the thread has room for it then, and its frames stay. `AllocError`: a growth was refused.
 #[inline(always)]
-fn frame_of(
+pub(crate) fn frame_of(
     at: At<'_>,
     thread: &mut Thread,
     method: u32,
@@ -89,9 +89,9 @@ fn frame_of(
     Ok(frame)
 }
 
-// Puts a frame, for which there is room, above the top one, a method's, which loses so many operands.
+/// Puts a frame, for which there is room, above the top one, a method's, which loses so many operands.
 #[inline(always)]
-fn push_called(thread: &mut Thread, frame: Frame, count: usize)
+pub(crate) fn push_called(thread: &mut Thread, frame: Frame, count: usize)
     requires method { RunsMethod thread.old }
     requires room { vec_len thread.old.frames < vec_capacity thread.old.frames }
     ensures { InAnyMethod thread.old (λ f below. Stands thread.new (Method frame ∷ Method (with_stack f (drop count f.activation.stack)) ∷ below)) }

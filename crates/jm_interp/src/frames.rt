@@ -118,7 +118,7 @@ fn take_result(frame: &mut Frame, value: Option<Value>) -> Result<(), TagFault>
 }
 
 // Keeps the memory of a frame that has ended in the frame on top, if that is a method's.
-#[inline]
+#[inline(always)]
 fn keep_memory(thread: &mut Thread, ended: Frame)
     ensures { (fs : List StackFrame) (r : ThreadRest) → Stands thread.old fs r → Stands thread.new fs r }
 {
@@ -133,7 +133,7 @@ fn keep_memory(thread: &mut Thread, ended: Frame)
 }
 
 // Drops the top frame, if there is one; the frame below keeps its memory, if both are methods'.
-#[inline]
+#[inline(always)]
 fn end_top(thread: &mut Thread)
     ensures { (fs : List StackFrame) (r : ThreadRest) → Stands thread.old fs r → Stands thread.new (drop 1 fs) r }
 {

@@ -23,7 +23,8 @@
 //! its thread, its top frame and its code, and takes no memory; [`run_plain`] looks these up once for
 //! as many as stand in a row (`plain_runs`), of which `jm_superinstructions` makes a few at once, makes with them those
 //! that touch one object (`frame_rows`), and between them those that touch one static field, literal or class
-//! (`object_rows`). The crate stands on `jm_state`, `jm_linked`, `jm_tables`, `jm_ops`,
+//! (`object_rows`). [`run_thread`] goes on so in the methods that are called (`call_rows`) and returned to
+//! (`return_rows`): the loop of both is in `method_runs`. The crate stands on `jm_state`, `jm_linked`, `jm_tables`, `jm_ops`,
 //! `jm_superinstructions` and `jm_heap`'s trait.
 #![tactic(auto)]
 
@@ -32,6 +33,7 @@ mod arrays_of_arrays;
 mod at;
 mod athrow;
 mod built_in_methods;
+mod call_rows;
 mod calls;
 mod characters;
 mod class_number;
@@ -51,6 +53,7 @@ mod instance_calls;
 mod instances;
 mod invocation;
 mod loaded_rows;
+mod method_runs;
 mod monitors;
 mod narrowing;
 mod object_kind;
@@ -60,6 +63,7 @@ mod plain_runs;
 mod print_operands;
 mod readiness;
 mod receivers;
+mod return_rows;
 mod returns;
 mod selections;
 mod special_calls;
@@ -80,7 +84,7 @@ mod top_object;
 mod type_checks;
 mod unwinding;
 
-pub use plain_runs::run_plain;
+pub use method_runs::run_plain;
 pub use stages::{init_stage, unwind_stage};
 pub use stepping::step_thread;
 pub use thread_runs::{Run, run_thread};

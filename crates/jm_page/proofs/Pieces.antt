@@ -1,14 +1,12 @@
 -- A text that is written piece by piece.
-use Rattle.std.proofs.Common.{◌≡◌, ℕ, List, [], ◌++◌, refl, sym, ap, subst, ◌∙◌, append_assoc, append-nil}
+use Rattle.std.proofs.Common.{◌≡◌, ℕ, List, [], ◌++◌, refl, sym, ap, subst, ◌∙◌, append_assoc}
 use Rattle.std.specs.Prelude.{Result, Ok, Err}
-use Rattle.jm_page.specs.Writing.{Begins, Puts}
+use Rattle.jm_program.specs.Lists.{Begins}
+use Rattle.jm_page.specs.Writing.{Puts}
 use Rattle.jm_page.specs.declared.writer.PageFault.{PageFault}
 use Rattle.jm_page.specs.declared.writer.PageFault.TheVariants.{OutOfMemory, WriteFailed}
 
-pub begins_whole : (text : List ℕ) → Begins text text
-begins_whole text = ([], sym (append-nil text))
-
-pub begins_none : (text : List ℕ) → Begins [] text
+begins_none : (text : List ℕ) → Begins [] text
 begins_none text = (text, refl)
 
 begins_more : (front rest more : List ℕ) → Begins front rest → Begins front (rest ++ more)

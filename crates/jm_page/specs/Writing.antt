@@ -1,11 +1,8 @@
 -- What stands in a writer of a page after a call.
-use Rattle.std.specs.Prelude.{◌≡◌, ℕ, List, ◌++◌, Result, Ok, Err}
+use Rattle.std.specs.Prelude.{ℕ, List, Result, Ok, Err}
+use Rattle.jm_program.specs.Lists.{Begins}
 use Rattle.jm_page.specs.declared.writer.PageFault.{PageFault}
 use Rattle.jm_page.specs.declared.writer.PageFault.TheVariants.{OutOfMemory, WriteFailed}
-
--- the text begins with these bytes
-abbrev pub Begins : List ℕ → List ℕ → Type 0
-Begins front text = (rest : List ℕ) × (text ≡ front ++ rest)
 
 -- The answer to writing a text: it was written; or memory was refused, and a beginning of it was written; or a write of a
 -- beginning of it failed. What a writer says of itself is between which states of it bytes were written, and between which

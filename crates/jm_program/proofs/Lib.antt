@@ -1,3 +1,4 @@
+pub mod Lists
 pub mod DescriptorLaws
 pub mod ParameterLoop
 pub mod WholeDescriptors

@@ -1,3 +1,4 @@
+pub mod Lists
 pub mod Flags
 pub mod NameUnits
 pub mod Names

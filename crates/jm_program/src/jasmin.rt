@@ -4,3 +4,5 @@ mod instruction;
 mod mnemonic;
 mod types;
 mod units;
+
+pub use units::StringUnits;

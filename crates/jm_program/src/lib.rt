@@ -38,6 +38,7 @@ pub use instruction::{
     ReturnOp, Shift, ShortIndex, Simple, SmallInt, SmallLong, StackOp, SwitchPair, TableSwitch,
     TypeOp,
 };
+pub use jasmin::StringUnits;
 pub use laws::one_descriptor;
 pub use limits::{MAX_ARGUMENT_SLOTS, MAX_CODE_BYTES, MAX_DIMENSIONS, NEWEST_MAJOR, OLDEST_MAJOR};
 pub use name::Name;

@@ -13,7 +13,7 @@ use crate::descriptor::MethodDescriptor;
 use crate::instruction::{
     Instr, InvokeOp, LookupSwitch, Plain, Simple, SwitchPair, TableSwitch, TypeOp,
 };
-use crate::jasmin::units::{Context, write_units};
+use crate::jasmin::units::StringUnits;
 use crate::reference::{ClassRef, MethodRef};
 use std::fmt;
 use std::fmt::Display;
@@ -142,9 +142,8 @@ impl Display for Constant {
             Constant::Int(number) => write!(f, "ldc {number}"),
             Constant::Long(number) => write!(f, "ldc2_w {number}"),
             Constant::String(units) => {
-                f.write_str("ldc \"")?;
-                write_units(f, Context::InString, units.get().as_slice())?;
-                f.write_str("\"")
+                let text = StringUnits(units.get().as_slice());
+                write!(f, "ldc \"{text}\"")
             }
         }
     }

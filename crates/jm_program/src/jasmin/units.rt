@@ -7,6 +7,7 @@ ghost use Rattle.jm_program.specs.JasminUnits.{is_escaped, escape_text, unit_tex
 
 use crate::surrogate::{is_high_surrogate, is_low_surrogate, supplementary_character};
 use std::fmt;
+use std::fmt::Display;
 
 /// What code units stand in.
 #[derive(Clone, Copy, PartialEq, Eq)]
@@ -140,4 +141,21 @@ pub fn write_units<W: fmt::Write>(
         waiting = waits(*unit);
     }
     write_lone(f, waiting)
+}
+
+/// The code units of a string.
+#[derive(Clone, Copy)]
+pub struct StringUnits<'a>(pub &'a [u16]);
+
+/// The string as it stands between its quotes, with `\uXXXX` for a control character, `"`, `\` and
+/// a surrogate without its partner.
+impl Display for StringUnits<'_> {
+    ghost use Rattle.std.specs.Prelude.{Some};
+    ghost use Rattle.jm_program.specs.JasminUnits.{string_text};
+
+    ghost output = { λ text. Some (string_text text.0.now) };
+
+    fn fmt<W: fmt::Write>(&self, f: &mut fmt::Formatter<W>) -> fmt::Result {
+        write_units(f, Context::InString, self.0)
+    }
 }

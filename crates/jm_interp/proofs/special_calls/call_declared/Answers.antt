@@ -5,4 +5,4 @@ pub call_without_code-requires : goal.call_without_code-requires
 call_without_code-requires g c = calls_without_code c.requires c.in-Some.ensures c.in-None.is
 
 pub call_code-requires : goal.call_code-requires
-call_code-requires g c = calls_code c.requires c.in-Some.ensures c.in-Some-invoked_code.ensures
+call_code-requires g c = calls_code c.requires c.in-Some-invoked_code.ensures

@@ -1,7 +1,7 @@
 -- A write that failed is one of the whole piece.
 use Rattle.std.proofs.Common.{subst}
-use Rattle.jm_page.specs.Writing.{Begins}
-use Rattle.jm_page.proofs.Pieces.{begins_whole}
+use Rattle.jm_program.specs.Lists.{Begins}
+use Rattle.jm_program.proofs.Lists.{begins_whole}
 use Rattle.jm_page.proofs.writer.put_piece.Goals as goal
 
 pub returns-in-Err-clause-put : goal.returns-in-Err-clause-put
