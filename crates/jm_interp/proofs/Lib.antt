@@ -32,7 +32,6 @@ pub mod ArrayStores
 pub mod TypeRows
 pub mod FieldPlaces
 pub mod FieldRows
-pub mod FieldStores
 pub mod ReturnRow
 pub mod MethodLeft
 pub mod Arguments
@@ -80,3 +79,10 @@ pub mod Starts
 pub mod ThreadMethods
 pub mod Entries
 pub mod CallRows
+pub mod RowPlaces
+pub mod RowLoads
+pub mod RowLifts
+pub mod RowFields
+pub mod RowLengths
+pub mod RowElements
+pub mod RowStores

@@ -33,3 +33,4 @@ pub mod MethodRuns
 pub mod CallRows
 pub mod FrameRows
 pub mod ThreadRuns
+pub mod ObjectRows

@@ -9,7 +9,7 @@
 //!
 //! `at` says where a step is made, and `specs/At` what it does: the words of all contracts. The files
 //! are named as the model's (`jm_world`): `stepping` chooses what is to be done, and `families` among instructions of one kind; `plain`, `constants`,
-//! `arrays`, `instances`, `fields`, `static_fields`, `type_checks`, `invocation`, `selections`,
+//! `object_ops`, over `arrays` and `fields`, `instances`, `static_fields`, `type_checks`, `invocation`, `selections`,
 //! `special_calls`, `returns` and `built_in_methods` are the instructions, with the text of Strings in
 //! `strings`, over `characters`, and what variables keep of values in `narrowing`. Of an invoke, `receivers` tests the
 //! receiver and the arguments, `declared` finds methods by their numbers, and `calls`, `instance_calls`,
@@ -22,9 +22,10 @@
 //! one thread in `top_frame`, `top_object`, `frames` and `print_operands`. A plain instruction looks up
 //! its thread, its top frame and its code, and takes no memory; [`run_plain`] looks these up once for
 //! as many as stand in a row (`plain_runs`), of which `jm_superinstructions` makes a few at once, makes with them those
-//! that touch one object (`frame_rows`), and between them those that touch one static field, literal or class
-//! (`object_rows`). [`run_thread`] goes on so in the methods that are called (`call_rows`) and returned to
-//! (`return_rows`): the loop of both is in `method_runs`. The crate stands on `jm_state`, `jm_linked`, `jm_tables`, `jm_ops`,
+//! that touch one object (`object_ops`), also behind loads (`loaded_rows`), and between them those that touch one
+//! static field, literal or class (`object_rows`). What touches a frame and one object is one function for events and
+//! for runs, which know no row (`object_steps`). [`run_thread`] goes on so in the methods that are called (`call_rows`)
+//! and returned to (`return_rows`): the loop of both is in `method_runs`. The crate stands on `jm_state`, `jm_linked`, `jm_tables`, `jm_ops`,
 //! `jm_superinstructions` and `jm_heap`'s trait.
 #![tactic(auto)]
 
@@ -44,7 +45,6 @@ mod declared;
 mod ending;
 mod families;
 mod fields;
-mod frame_rows;
 mod frames;
 mod handlers;
 mod initialization;
@@ -57,7 +57,9 @@ mod method_runs;
 mod monitors;
 mod narrowing;
 mod object_kind;
+mod object_ops;
 mod object_rows;
+mod object_steps;
 mod plain;
 mod plain_runs;
 mod print_operands;
