@@ -59,6 +59,7 @@ mod narrowing;
 mod object_kind;
 mod object_ops;
 mod object_rows;
+mod object_runs;
 mod object_steps;
 mod plain;
 mod plain_runs;
