@@ -153,15 +153,6 @@ module _ {H : Type 0} {content : H → Content ClassId} {at : At} {old : State H
             → (leave w (at.index + 1) (name_of (content old.heap) p) ≡ None) × Matches (parts_at content at mid) w
         no_owner is w m = not_left (leave w (at.index + 1) (name_of (content old.heap) p)) (own_left false is w m)
 
-        pub stays_in : left ≡ false → InMethod content at mid
-        stays_in is =
-            record {
-              frame = h.method.frame;
-              below = h.method.below;
-              on = stands_in h.method.on only runs h.method.on.world
-                  (no_owner is h.method.on.world h.method.on.beside.matches).1;
-            }
-
         pub throws_no_owner : left ≡ false → {name : List ℕ} → name ≡ codes "java/lang/IllegalMonitorStateException"
             → {result : Result StepEnd Halt} {new : State H} → Does content at mid result new (λ w number t. throw w number t name)
             → Steps content at old result new

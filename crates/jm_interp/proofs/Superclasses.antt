@@ -60,9 +60,6 @@ known (b ∷ bs) rest (suc n) lt =
     by false e = e
 
 module _ {program : List ClassParts} {superclass : Option (List ℕ)} where
-  pub no_superclass : IsSuperclass program superclass None → IsOwnSuperclass program superclass None
-  no_superclass is = subst (λ s. IsOwnSuperclass program s None) is.named tt
-
   pub built_in_superclass : {n : ℕ} → IsSuperclass program superclass (Some n) → n < length the_builtins → IsOwnSuperclass program superclass None
   unfolding all_names
   built_in_superclass {n} is few =

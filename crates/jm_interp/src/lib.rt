@@ -22,9 +22,9 @@
 //! one thread in `top_frame`, `top_object`, `frames` and `print_operands`. A plain instruction looks up
 //! its thread, its top frame and its code, and takes no memory; [`run_plain`] looks these up once for
 //! as many as stand in a row (`plain_runs`), of which `jm_superinstructions` makes a few at once, makes with them those
-//! that touch one object (`object_ops`), also behind loads (`loaded_rows`), and between them those that touch one
-//! static field, literal or class (`object_rows`). What touches a frame and one object is one function for events and
-//! for runs, which know no row (`object_steps`). [`run_thread`] goes on so in the methods that are called (`call_rows`)
+//! that touch one object (`object_runs`), also behind loads (`loaded_rows`), and between them those that touch one
+//! static field, literal or class (`object_rows`). What touches a frame and one object is one function (`object_ops`) for
+//! events and for runs, which know no row (`object_steps`). [`run_thread`] goes on so in the methods that are called (`call_rows`)
 //! and returned to (`return_rows`): the loop of both is in `method_runs`. The crate stands on `jm_state`, `jm_linked`, `jm_tables`, `jm_ops`,
 //! `jm_superinstructions` and `jm_heap`'s trait.
 #![tactic(auto)]
