@@ -1,6 +1,8 @@
 // The memory of frames that ended.
 
-ghost use Rattle.std.specs.Prelude.{◌≡◌, ◌≤◌, [], None, IfOk, OnOk, replicate, vec_capacity};
+ghost use Rattle.std.specs.Prelude.{◌≡◌, ◌+◌, ◌-◌, ◌≤◌, ◌++◌, [], None, IfOk, IfSome, OnOk, length, replicate, vec_capacity, vec_len};
+ghost use Rattle.jm_values.specs.Activation.{category};
+ghost use Rattle.jm_frames.specs.Called.{argument_locals, locals_of};
 
 use crate::local::Local;
 use jm_values::Value;
@@ -17,6 +19,43 @@ pub(crate) struct Memory {
 #[derive(Drop)]
 pub struct Spare {
     memories: Vec<Memory>,
+}
+
+// Puts an argument behind local variables, for which there is room: a long takes two.
+#[inline(always)]
+fn put_argument(locals: &mut Vec<Local>, argument: &Value)
+    requires { vec_len locals.old + category argument.now ≤ vec_capacity locals.old }
+    ensures items { locals.new.items ≡ locals.old.items ++ argument_locals argument.now }
+    ensures room { vec_capacity locals.new ≡ vec_capacity locals.old }
+{
+    locals.push_reserved(Local::of(Some(*argument)));
+    if let Value::Long(_) = *argument {
+        locals.push_reserved(Local::unset());
+    }
+}
+
+// Puts arguments into local variables, for which there is room.
+#[inline(always)]
+pub(crate) fn put_arguments(locals: &mut Vec<Local>, arguments: &[Value])
+    requires { vec_len locals.old + length (locals_of arguments.now) ≤ vec_capacity locals.old }
+    ensures items { locals.new.items ≡ locals.old.items ++ locals_of arguments.now }
+    ensures room { vec_capacity locals.new ≡ vec_capacity locals.old }
+{
+    for argument in arguments {
+        put_argument(locals, argument);
+    }
+}
+
+// Puts local variables that are not set behind others, for which there is room, until there are so many.
+#[inline(always)]
+pub(crate) fn unset_rest(locals: &mut Vec<Local>, count: usize)
+    requires room { count ≤ vec_capacity locals.old }
+    requires fewer { vec_len locals.old ≤ count }
+    ensures { locals.new.items ≡ locals.old.items ++ replicate (count - length locals.old.items) None }
+{
+    for _unset in locals.len()..count {
+        locals.push_reserved(Local::unset());
+    }
 }
 
 // Makes so many local variables that are not set.
@@ -54,6 +93,22 @@ impl Spare {
         }
     }
 
+    // The memory that was kept last, where it has room for so many operands and local variables; it holds none.
+    #[inline(always)]
+    pub(crate) fn take_reserved(&mut self, operands: usize, locals: usize) -> Option<Memory>
+        ensures locals { IfSome result (λ memory. (memory.locals.items ≡ []) × (locals ≤ vec_capacity memory.locals)) }
+        ensures operands { IfSome result (λ memory. (memory.stack.items ≡ []) × (operands ≤ vec_capacity memory.stack)) }
+    {
+        let mut memory = self.memories.pop()?;
+        if memory.locals.capacity() < locals || memory.stack.capacity() < operands {
+            let _kept = self.memories.push(memory);
+            return None;
+        }
+        memory.locals.clear();
+        memory.stack.clear();
+        Some(memory)
+    }
+
     // Takes memory with so many local variables, which are not set, and room for so many operands.
     #[inline(always)]
     pub(crate) fn take(&mut self, operands: usize, locals: usize) -> Result<Memory, AllocError>
@@ -70,6 +125,10 @@ impl Spare {
     // Keeps memory; where there is no room to note it, it is given back.
     #[inline(always)]
     pub(crate) fn put(&mut self, memory: Memory) {
-        let _kept = self.memories.push(memory);
+        if self.memories.len() < self.memories.capacity() {
+            self.memories.push_reserved(memory);
+        } else {
+            let _kept = self.memories.push(memory);
+        }
     }
 }
