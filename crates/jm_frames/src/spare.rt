@@ -18,7 +18,9 @@ pub(crate) struct Memory {
 /// The memory of frames that ended, for those that begin. It holds no value.
 #[derive(Drop)]
 pub struct Spare {
-    memories: Vec<Memory>,
+    alloc: Global,
+    // none where none was ever kept: to let go of that costs nothing
+    memories: Option<Vec<Memory>>,
 }
 
 // Puts an argument behind local variables, for which there is room: a long takes two.
@@ -71,24 +73,43 @@ fn unset(locals: &mut Vec<Local>, count: usize) -> Result<(), AllocError>
     Ok(())
 }
 
+// Keeps memory behind other; where there is no room to note it, it is given back.
+#[inline(always)]
+fn keep_last(memories: &mut Vec<Memory>, memory: Memory) {
+    if memories.len() < memories.capacity() {
+        memories.push_reserved(memory);
+    } else {
+        let _kept = memories.push(memory);
+    }
+}
+
 impl Spare {
     /// No memory.
     #[inline]
     pub fn new(alloc: Global) -> Spare {
         Spare {
-            memories: Vec::new(alloc),
+            alloc,
+            memories: None,
         }
     }
 
-    // The memory of one of them, if there is one.
+    // The memory that was kept last, if there is one.
+    #[inline(always)]
+    fn last(&mut self) -> Option<Memory> {
+        match &mut self.memories {
+            Some(memories) => memories.pop(),
+            None => None,
+        }
+    }
+
+    // The same, or new memory.
     #[inline(always)]
     fn pop(&mut self) -> Memory {
-        let alloc = *self.memories.allocator();
-        match self.memories.pop() {
+        match self.last() {
             Some(memory) => memory,
             None => Memory {
-                locals: Vec::new(alloc),
-                stack: Vec::new(alloc),
+                locals: Vec::new(self.alloc),
+                stack: Vec::new(self.alloc),
             },
         }
     }
@@ -99,9 +120,9 @@ impl Spare {
         ensures locals { IfSome result (λ memory. (memory.locals.items ≡ []) × (locals ≤ vec_capacity memory.locals)) }
         ensures operands { IfSome result (λ memory. (memory.stack.items ≡ []) × (operands ≤ vec_capacity memory.stack)) }
     {
-        let mut memory = self.memories.pop()?;
+        let mut memory = self.last()?;
         if memory.locals.capacity() < locals || memory.stack.capacity() < operands {
-            let _kept = self.memories.push(memory);
+            self.put(memory);
             return None;
         }
         memory.locals.clear();
@@ -125,10 +146,13 @@ impl Spare {
     // Keeps memory; where there is no room to note it, it is given back.
     #[inline(always)]
     pub(crate) fn put(&mut self, memory: Memory) {
-        if self.memories.len() < self.memories.capacity() {
-            self.memories.push_reserved(memory);
-        } else {
-            let _kept = self.memories.push(memory);
+        match &mut self.memories {
+            Some(memories) => keep_last(memories, memory),
+            None => {
+                let mut memories = Vec::new(self.alloc);
+                keep_last(&mut memories, memory);
+                self.memories = Some(memories);
+            }
         }
     }
 }
