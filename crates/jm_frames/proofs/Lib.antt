@@ -1,3 +1,4 @@
 pub mod Units
 pub mod Groups
 pub mod Refilled
+pub mod Called

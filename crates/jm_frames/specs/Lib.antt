@@ -3,3 +3,4 @@ pub mod Made
 pub mod Computed
 pub mod Operands
 pub mod Locals
+pub mod Called

@@ -1,15 +1,16 @@
 // The frame of a method that runs.
 
-ghost use Rattle.std.specs.Prelude.{◌≡◌, ◌+◌, ◌<◌, ◌≤◌, ◌^◌, ℤ, [], ◌∷◌, drop, length, replicate, reverse, slice_get, slice_set, Some, None, Ok, Err, IfOk, if◌then◌else◌, nat_le, MatchResult, OnOk, OnErr};
+ghost use Rattle.std.specs.Prelude.{◌≡◌, ◌+◌, ◌<◌, ◌≤◌, ◌^◌, ℤ, [], ◌∷◌, drop, length, replicate, reverse, slice_get, slice_set, Some, None, Ok, Err, IfOk, IfSome, if◌then◌else◌, nat_le, MatchOption, MatchResult, OnOk, OnErr};
 ghost use Rattle.std.specs.Slice.Iter.{iter_rest};
 ghost use Rattle.jm_values.specs.Activation.{category, units};
 ghost use Rattle.jm_values.specs.Shape.{option_shape};
 ghost use Rattle.jm_values.specs.declared.value.Value.TheVariants.{Int, Long};
 ghost use Rattle.jm_values.specs.Rename.{refs, refill, value_shape, locals_shape, stack_shape, activation_shape};
+ghost use Rattle.jm_frames.specs.Called.{arguments_on, called, locals_of};
 ghost use Rattle.jm_frames.specs.FrameView.{FrameView, with_stack, with_locals_of, gone_to};
 
 use crate::local::Local;
-use crate::spare::{Memory, Spare};
+use crate::spare::{Memory, Spare, put_arguments, unset_rest};
 use jm_values::{Place, TagFault, Value};
 use std::alloc::{AllocError, Global};
 use std::marker::Model;
@@ -99,7 +100,7 @@ impl Frame {
     }
 
     /// Takes the memory that the frame keeps for those that are called from it.
-    #[inline]
+    #[inline(always)]
     pub fn take_spare(&mut self) -> Spare
         ensures { self.new ≡ self.old }
     {
@@ -107,8 +108,45 @@ impl Frame {
         std::mem::replace(&mut self.spare, Spare::new(alloc))
     }
 
+    /// Begins the frame of a method that is called from this one, in memory that this one keeps: at
+    /// instruction 0, with no monitor entered and no operand, and with so many operands on top of this
+    /// one, which loses them, as its first local variables, a long as two (JVMS 2.6.1). It has all the
+    /// memory that is kept. None: no memory with room for the method is kept, and nothing has changed.
+    #[inline(always)]
+    pub fn call(
+        &mut self,
+        method: usize,
+        max_stack: u16,
+        max_locals: u16,
+        count: usize,
+    ) -> Option<Frame>
+        requires enough { count ≤ length self.old.activation.stack }
+        requires fits { length (locals_of (arguments_on count self.old.activation.stack)) ≤ max_locals }
+        ensures begun { IfSome result (λ frame. frame ≡ called method max_stack max_locals (arguments_on count self.old.activation.stack)) }
+        ensures caller { MatchOption result (self.new ≡ self.old) (λ _. self.new ≡ with_stack self.old (drop count self.old.activation.stack)) }
+    {
+        let memory = self
+            .spare
+            .take_reserved(usize::from(max_stack), usize::from(max_locals))?;
+        let mut locals = memory.locals;
+        let first = self.stack.len() - count;
+        put_arguments(&mut locals, &self.stack[first..]);
+        unset_rest(&mut locals, usize::from(max_locals));
+        self.drop_operands(count);
+        Some(Frame {
+            method,
+            monitor: None,
+            at: 0,
+            max_stack: usize::from(max_stack),
+            longs: 0,
+            locals,
+            stack: memory.stack,
+            spare: self.take_spare(),
+        })
+    }
+
     /// Keeps the memory of a frame that was called from this one and has ended, with all that it kept.
-    #[inline]
+    #[inline(always)]
     pub fn keep(&mut self, ended: Frame)
         ensures { self.new ≡ self.old }
     {

@@ -1,6 +1,6 @@
 // Calls of methods that have code.
 
-ghost use Rattle.std.specs.Prelude.{◌≡◌, ◌<◌, ◌∷◌, List, Some, IfOk, OnOk, drop, option_map, slice_get, vec_len, vec_capacity};
+ghost use Rattle.std.specs.Prelude.{◌≡◌, ◌-◌, ◌<◌, ◌∷◌, List, Some, None, IfOk, IfSome, OnOk, true, false, drop, option_map, slice_get, vec_len, vec_capacity};
 ghost use Rattle.jm_program.specs.declared.code.Code.{Code};
 ghost use Rattle.jm_state.specs.Arguments.{beginning, on_top};
 ghost use Rattle.jm_frames.specs.FrameView.{with_stack};
@@ -87,6 +87,53 @@ pub(crate) fn frame_of(
     let frame = called_frame_in(spare, callee, arguments_on(top_method(thread), count))?;
     thread.frames.reserve(1)?;
     Ok(frame)
+}
+
+// Begins the frame of a method that the top frame, a method's, calls with so many of its operands, which it loses, in
+// memory that it keeps; none, and nothing has changed, where that does not do.
+#[inline(always)]
+fn begin_on_top(at: At<'_>, thread: &mut Thread, method: u32, count: usize) -> Option<Frame>
+    requires { ThreadCalls at.linked.now method count thread.old }
+    ensures begun { (m : LinkedMethod) → slice_get at.entry.linked.now.methods method ≡ Some m → InAnyMethod thread.old (λ f below r. IfSome result (λ frame.
+        (frame ≡ beginning (callee_with method m None) (on_top count f.activation.stack))
+        × Stands thread.new (Method (with_stack f (drop count f.activation.stack)) ∷ below) r)) }
+    ensures stays { result ≡ None → (fs : List HeldFrame) (r : ThreadRest) → Stands thread.old fs r → Stands thread.new fs r }
+    ensures room { vec_capacity thread.new.frames - vec_len thread.new.frames ≡ vec_capacity thread.old.frames - vec_len thread.old.frames }
+{
+    let linked = &at.linked.methods()[method as usize];
+    let Some(top) = thread.frames.last_mut() else {
+        unreachable!();
+    };
+    match top {
+        StackFrame::Method(frame) => {
+            frame.call(method as usize, linked.max_stack, linked.max_locals, count)
+        }
+        StackFrame::Initialization { class: _, stage: _ } => unreachable!(),
+        StackFrame::Entry => unreachable!(),
+    }
+}
+
+/// Calls a method that enters no monitor, by its number among those with code, from the top frame, with so many of its
+/// operands, which it loses; answers whether it was called. It is not where there is no room for one more frame, or
+/// the top frame keeps no memory that does; nothing has changed then.
+#[inline(always)]
+pub(crate) fn call_on_top(at: At<'_>, thread: &mut Thread, method: u32, count: usize) -> bool
+    requires { ThreadCalls at.linked.now method count thread.old }
+    ensures called { result ≡ true → (m : LinkedMethod) → slice_get at.entry.linked.now.methods method ≡ Some m → InAnyMethod thread.old (λ f below.
+        Stands thread.new (Method (beginning (callee_with method m None) (on_top count f.activation.stack))
+        ∷ Method (with_stack f (drop count f.activation.stack)) ∷ below)) }
+    ensures stays { result ≡ false → (fs : List HeldFrame) (r : ThreadRest) → Stands thread.old fs r → Stands thread.new fs r }
+{
+    if thread.frames.len() == thread.frames.capacity() {
+        return false;
+    }
+    match begin_on_top(at, thread, method, count) {
+        Some(frame) => {
+            thread.frames.push_reserved(StackFrame::Method(frame));
+            true
+        }
+        None => false,
+    }
 }
 
 /// Puts a frame, for which there is room, above the top one, a method's, which loses so many operands.

@@ -94,7 +94,7 @@ pub(crate) fn begin_above(
 
 // Takes the result of a method that was called, if it has one, on the operands of the caller, which
 // moves on. `Overflow`: `max_stack` has no room for it (JVMS 2.6.2), and nothing has changed.
-#[inline]
+#[inline(always)]
 fn take_result(frame: &mut Frame, value: Option<Value>) -> Result<(), TagFault>
     requires { frame.old.activation.at + 1 < 2 ^ 64 }
     ensures { Took result value frame.old frame.new }

@@ -43,7 +43,7 @@ fn search(methods: &[LinkedMethod], class: u32, member: u32) -> usize {
 }
 
 // The number, where it is that of the method with code that a class declares.
-#[inline]
+#[inline(always)]
 fn numbered(linked: &Linked, number: u32, method: MemberNumber) -> Option<u32>
     ensures { IfSome result (λ number. IsCodeOf linked.now method number) }
 {
@@ -57,6 +57,7 @@ fn numbered(linked: &Linked, number: u32, method: MemberNumber) -> Option<u32>
 
 /// The number among those with code of a method that a class declares; none where it has no code. In
 /// as many steps as the number of all has binary digits.
+#[inline(never)]
 pub(crate) fn code_number(linked: &Linked, method: MemberNumber) -> Option<u32>
     ensures { IfSome result (λ number. IsCodeOf linked.now method number) }
 {
@@ -67,7 +68,7 @@ pub(crate) fn code_number(linked: &Linked, method: MemberNumber) -> Option<u32>
 
 // The number among those with code of the first method of a selector's name and type; none where it has
 // no code.
-#[inline]
+#[inline(always)]
 fn first_code(linked: &Linked, selector: u32) -> Option<u32> {
     match linked.tables().codes.as_slice().get(selector as usize) {
         Some(number) => *number,
@@ -77,7 +78,7 @@ fn first_code(linked: &Linked, selector: u32) -> Option<u32> {
 
 /// The same of the method that an invoke means. It is mostly the first method of its name and type, and
 /// is searched for where it is not.
-#[inline]
+#[inline(always)]
 pub(crate) fn invoked_code(linked: &Linked, method: InvokedMethod) -> Option<u32>
     ensures { IfSome result (λ number. IsCodeOf linked.now method.found number) }
 {

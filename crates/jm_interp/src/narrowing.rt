@@ -38,7 +38,7 @@ pub(crate) fn operand_of(kind: ValueKind) -> OperandType
 }
 
 // The primitive type as which an int is narrowed.
-#[inline]
+#[inline(always)]
 fn base_of(kind: ValueKind) -> BaseType
     ensures { result ≡ base_of kind }
 {
@@ -52,7 +52,7 @@ fn base_of(kind: ValueKind) -> BaseType
 }
 
 /// What a variable of a kind keeps of a value.
-#[inline]
+#[inline(always)]
 pub(crate) fn keep(kind: ValueKind, value: Value) -> Value
     ensures { result ≡ kept kind value }
 {

@@ -7,3 +7,4 @@ pub mod PrintStreams
 pub mod Names
 pub mod Coded
 pub mod HeldTypes
+pub mod Parameters

@@ -2,7 +2,8 @@
 use Rattle.std.specs.Prelude.{◌≡◌, ℕ, suc, List, [], ◌∷◌, ◌++◌, map, length, Option}
 use Rattle.std.specs.Prelude.{Some, None, Bool, true, false, ◌&&◌, is_some, unwrap_or, slice_get, option_map, IfSome}
 use Rattle.std.specs.List.{AllByRecursion, list_all}
-use Rattle.jm_program.specs.Flags.{is_static}
+use Rattle.jm_program.specs.Fits.{Fits}
+use Rattle.jm_program.specs.Flags.{is_static, is_synchronized}
 use Rattle.jm_program.specs.Instructions.{instr_fits}
 use Rattle.jm_program.specs.declared.class.ClassParts.{ClassParts}
 use Rattle.jm_program.specs.declared.class.Method.{Method}
@@ -237,10 +238,13 @@ pub record MethodLinks (l : LinkedView) (m : LinkedMethod) : Type 0 where
   pub method : Method
   pub code : Code
   pub class_is : slice_get l.program m.class ≡ Some class
+  pub class_fits : Fits class
   pub method_is : slice_get class.methods m.member ≡ Some method
   pub code_is : method.code ≡ Some code
   pub named : method_named l.program (name_of_method (record { class = class; method = method })) ≡ Some method
+  pub parameters : m.parameters ≡ map kind_of method.descriptor.parameters
   pub result : m.result ≡ option_map kind_of method.descriptor.return_type
+  pub synchronized : m.is_synchronized ≡ is_synchronized method.flags
   pub max_stack : m.max_stack ≡ code.max_stack
   pub max_locals : m.max_locals ≡ code.max_locals
   pub instructions : AllLink l class.name m.code code.instructions

@@ -1,16 +1,18 @@
 // A program whose names are resolved.
 
-ghost use Rattle.std.specs.Prelude.{◌≡◌, ◌<◌, List, ℕ, Some, None, length, slice_index_or};
+ghost use Rattle.std.specs.Prelude.{◌≡◌, ◌<◌, List, ℕ, Some, None, IfSome, length, map, slice_index_or};
 ghost use Rattle.jm_program.specs.declared.class.ClassParts.{ClassParts};
 ghost use Rattle.jm_program.specs.declared.descriptor.MethodDescriptor.{MethodDescriptor};
 ghost use Rattle.jm_builtins.specs.List.{the_builtins};
 ghost use Rattle.jm_world.specs.Hierarchy.{is_subclass};
 ghost use Rattle.jm_world.specs.Resolution.{select};
 ghost use Rattle.jm_tables.specs.Numbering.{name_of};
+ghost use Rattle.jm_linked.specs.Kinds.{kind_of};
 ghost use Rattle.jm_linked.specs.Links.{LinkedView, IsLinked, IsSelected, NamesClass, class_numbered};
 ghost use Rattle.jm_linked.specs.Methods.{selector_of};
 ghost use Rattle.jm_linked.specs.Tables.{IsSuperclass, all_names};
 
+use crate::kind::ValueKind;
 use crate::method::{LinkedMethod, Selected};
 use crate::tables::Tables;
 use jm_builtins::BuiltIn;
@@ -55,6 +57,7 @@ impl Model for Linked {
 }
 
 // What stands at a number, if there is anything.
+#[inline(always)]
 fn number_at(numbers: &[Option<u32>], index: u32) -> Option<u32>
     ensures { result ≡ slice_index_or numbers.now index None }
 {
@@ -132,7 +135,7 @@ impl Linked {
     /// What invokevirtual and invokeinterface find for an object of a class, by the class's number and
     /// the selector of the method's name and type: the first method from the class up that has both and
     /// is neither static nor private (JVMS 6.5 invokevirtual).
-    #[inline]
+    #[inline(always)]
     pub fn select(&self, class: u32, selector: u32) -> Selected
         ensures { (name : List ℕ) (t : MethodDescriptor) → selector_of self.now.program name t ≡ Some selector → class < length (all_names self.now.program)
             → IsSelected self.now (select self.now.program (name_of (all_names self.now.program) class) name t) result }
@@ -144,6 +147,18 @@ impl Linked {
             Some(code) => Selected::Coded(code),
             None => Selected::WithoutCode(method),
         }
+    }
+
+    /// What the parameters of the methods that a selector stands for hold, in their order: all have one
+    /// type (JVMS 5.4.5). None where the first of these methods has no code.
+    #[inline(always)]
+    pub fn parameters(&self, selector: u32) -> Option<&[ValueKind]>
+        ensures { (name : List ℕ) (t : MethodDescriptor) → selector_of self.now.program name t ≡ Some selector
+            → IfSome result (λ kinds. kinds.now ≡ map kind_of t.parameters) }
+    {
+        let code = number_at(self.tables.codes.as_slice(), selector)?;
+        let method = self.methods.as_slice().get(code as usize)?;
+        Some(method.parameters.as_slice())
     }
 
     /// Whether a class or an interface is another one, extends it or implements it, by their numbers

@@ -10,8 +10,12 @@ pub struct LinkedMethod {
     pub class: u32,
     /// Its number among the methods of its class.
     pub member: u32,
+    /// What its parameters hold, in their order.
+    pub parameters: Sequence<ValueKind>,
     /// What it returns, or none for `V`.
     pub result: Option<ValueKind>,
+    /// Whether a call of it enters a monitor (JVMS 2.11.10).
+    pub is_synchronized: bool,
     pub max_stack: u16,
     pub max_locals: u16,
     pub code: LinkedCode,
@@ -25,7 +29,9 @@ impl Drop for LinkedMethod {
         let LinkedMethod {
             class: _,
             member: _,
+            parameters: _,
             result: _,
+            is_synchronized: _,
             max_stack: _,
             max_locals: _,
             code: _,

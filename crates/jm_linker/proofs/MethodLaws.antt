@@ -69,7 +69,7 @@ so_far_past program k ms i x old now l is none h = record {
 }
 
 alone : (program : List ClassParts) (k i : ℕ) (c : ClassParts) (x : Method) (code : Code) (m : LinkedMethod) → slice_get program k ≡ Some c → Fits c
-    → slice_get c.methods i ≡ Some x → x.code ≡ Some code → LinksCode program k i c.name x.descriptor code m → LinksAlone program m
+    → slice_get c.methods i ≡ Some x → x.code ≡ Some code → LinksCode program k i c.name x code m → LinksAlone program m
 alone program k i c x code m class fits method is h = record {
   class = c;
   fits = fits;
@@ -81,7 +81,9 @@ alone program k i c x code m class fits method is h = record {
   links = record {
     class_is = refl;
     member_is = refl;
+    parameters = h.parameters;
     result = h.result;
+    synchronized = h.synchronized;
     max_stack = h.max_stack;
     max_locals = h.max_locals;
     instructions = h.instructions;
@@ -93,7 +95,7 @@ alone program k i c x code m class fits method is h = record {
 pub so_far_more : (program : List ClassParts) (k : ℕ) (c : ClassParts) (ms : List Method) (i n : ℕ) (x : Method) (code : Code) (m : LinkedMethod)
     (old now next : List LinkedMethod)
     → slice_get program k ≡ Some c → Fits c → ms ≡ c.methods → i < length ms → x ≡ get_or ms i x → x.code ≡ Some code → n ≡ i
-    → LinksCode program k n c.name x.descriptor code m → next ≡ now ++ m ∷ [] → LinksSoFar program k ms i old now → LinksSoFar program k ms (i + 1) old next
+    → LinksCode program k n c.name x code m → next ≡ now ++ m ∷ [] → LinksSoFar program k ms i old now → LinksSoFar program k ms (i + 1) old next
 so_far_more program k c ms i n x code m old now next class fits same l is has number links pushed h =
     let at : slice_get c.methods n ≡ Some x = ap (λ xs. slice_get xs n) (sym same) ∙ ap (slice_get ms) number ∙ slice_get_read ms (length ms) i x refl l is in
     let place : place_of m ≡ (k, i) = ap (λ a. (a, m.member)) links.class_is ∙ ap (λ b. (k, b)) (links.member_is ∙ number) in

@@ -26,10 +26,10 @@ use jm_linked::{
     InvokedMethod, LinkedCode, LinkedConstant, LinkedInstr, LinkedMethod, PrintMethod, ValueKind,
 };
 use jm_program::{
-    Class, Code, Constant, FieldOp, FieldRef, Instr, InvokeOp, MethodDescriptor, MethodRef, Name,
-    Plain,
+    AccessFlags, Class, Code, Constant, FieldOp, FieldRef, FieldType, Instr, InvokeOp, Method,
+    MethodDescriptor, MethodRef, Name, Plain, Sequence,
 };
-use std::alloc::Global;
+use std::alloc::{AllocError, Global};
 
 fn link_constant<'a>(classes: &Classes<'a>, constant: &'a Constant) -> LinkedInstr
     requires { AreLiterals classes.now.program.now (text_of constant.now) }
@@ -194,6 +194,20 @@ fn result_kind(descriptor: &MethodDescriptor) -> Option<ValueKind>
     }
 }
 
+// What parameters hold, in their order.
+fn parameter_kinds(
+    alloc: Global,
+    parameters: &[FieldType],
+) -> Result<Sequence<ValueKind>, AllocError>
+    ensures { IfOk result (λ kinds. kinds ≡ map kind_of parameters.now) }
+{
+    let mut kinds = Vec::with_capacity(alloc, parameters.len())?;
+    for parameter in parameters {
+        kinds.push(ValueKind::of(parameter))?;
+    }
+    Ok(Sequence::new(kinds))
+}
+
 // The method of a number of a class, by the class's number among the program's and its name.
 #[tactic(auto, using(crate::proofs::Reasons::first_says))]
 fn link_code<'a>(
@@ -202,20 +216,23 @@ fn link_code<'a>(
     class: u32,
     member: u32,
     caller: &'a Name,
-    descriptor: &MethodDescriptor,
+    method: &Method,
     code: &'a Code,
 ) -> Result<LinkedMethod, LinkFault>
     requires { AreLiterals classes.now.program.now (flat_map texts_of_instruction code.now.instructions) }
     ensures refusal { Answers result (or_else (first_of_all (instruction_refusal classes.now.program.now) code.now.instructions)
         (first_of_all (catch_refusal classes.now.program.now) code.now.handlers)) }
-    ensures linked { IfOk result (LinksCode classes.now.program.now class member caller.now descriptor.now code.now) }
+    ensures linked { IfOk result (LinksCode classes.now.program.now class member caller.now method.now code.now) }
 {
     let instructions = link_instructions(alloc, classes, caller, code.instructions.as_slice())?;
     let handlers = link_handlers(alloc, classes, code.handlers.as_slice())?;
+    let parameters = parameter_kinds(alloc, method.descriptor.parameters.as_slice())?;
     Ok(LinkedMethod {
         class,
         member,
-        result: result_kind(descriptor),
+        parameters,
+        result: result_kind(&method.descriptor),
+        is_synchronized: method.flags.has(AccessFlags::SYNCHRONIZED),
         max_stack: code.max_stack,
         max_locals: code.max_locals,
         code: instructions,
@@ -242,16 +259,7 @@ fn link_class<'a>(
             continue;
         };
         let member = short_number(index)?;
-        let descriptor = &method.descriptor;
-        let method = link_code(
-            alloc,
-            classes,
-            number,
-            member,
-            &parts.name,
-            descriptor,
-            code,
-        )?;
+        let method = link_code(alloc, classes, number, member, &parts.name, method, code)?;
         linked.push(method)?;
     }
     Ok(())

@@ -10,7 +10,9 @@ use Rattle.jm_values.specs.declared.value.Value.{Value}
 use Rattle.jm_values.specs.declared.value.Value.TheVariants.{Int, Long, Null, Ref}
 use Rattle.jm_world.specs.Invocation.{argument_locals, locals_of, unset, padded}
 use Rattle.jm_world.proofs.LocalsOfCalls.{unset_length}
+use Rattle.jm_frames.specs.Called as of_frame
 use Rattle.jm_frames.specs.FrameView.{FrameView, with_locals_of}
+use Rattle.jm_state.specs.Arguments.{beginning}
 use Rattle.jm_state.specs.declared.arguments.Callee.{Callee}
 
 put_at : {X : Type 0} (xs ys : List X) (x y : X) → slice_set (xs ++ x ∷ ys) (length xs) y ≡ xs ++ y ∷ ys
@@ -63,6 +65,17 @@ locals_both : (xs ys : List Value) → locals_of (xs ++ ys) ≡ locals_of xs ++ 
 locals_both [] ys = refl
 locals_both (x ∷ xs) ys = ap (λ l. argument_locals x ++ l) (locals_both xs ys) ∙ sym (append_assoc (argument_locals x) (locals_of xs) (locals_of ys))
 
+-- the words of frames for them are the same
+argument_same : (v : Value) → of_frame.argument_locals v ≡ argument_locals v
+argument_same (Int n) = refl
+argument_same (Long n) = refl
+argument_same Null = refl
+argument_same (Ref p) = refl
+
+pub locals_same : (vs : List Value) → of_frame.locals_of vs ≡ locals_of vs
+locals_same [] = refl
+locals_same (v ∷ vs) = ap (λ l. l ++ of_frame.locals_of vs) (argument_same v) ∙ ap (λ l. argument_locals v ++ l) (locals_same vs)
+
 -- a frame of the method with these local variables
 abbrev pub called : Callee → List (Option Value) → FrameView
 called c locals = record {
@@ -76,9 +89,22 @@ pub record Handed (c : Callee) (arguments : List Value) (i local : ℕ) (frame :
   pub local_is : local ≡ length (locals_of (take i arguments))
   pub frame_is : frame ≡ called c (padded c.max_locals (locals_of (take i arguments)))
 
-unset_are : (m : ℕ) → replicate m None ≡ unset m
+pub unset_are : (m : ℕ) → replicate m None ≡ unset m
 unset_are zero = refl
 unset_are (suc m) = ap (λ l. None ∷ l) (unset_are m)
+
+-- a frame that another one calls begins as the model says
+pub called_begins : (c : Callee) (arguments : List Value) → c.monitor ≡ None
+    → of_frame.called c.method c.max_stack c.max_locals arguments ≡ beginning c arguments
+called_begins c arguments free =
+    let rest = c.max_locals - length (locals_of arguments) in
+    ap (λ monitor. record {
+      method = c.method;
+      monitor = monitor;
+      activation = (of_frame.called c.method c.max_stack c.max_locals arguments).activation;
+    }) (sym free)
+    ∙ ap (λ l. called c (l ++ replicate (c.max_locals - length l) None)) (locals_same arguments)
+    ∙ ap (λ l. called c (locals_of arguments ++ l)) (unset_are rest)
 
 pub none_handed : (c : Callee) (arguments : List Value) (frame : FrameView) → frame ≡ called c (replicate c.max_locals None)
     → Handed c arguments 0 0 frame

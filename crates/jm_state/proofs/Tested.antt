@@ -14,12 +14,17 @@ types_of parameters = map operand_of (reverse parameters)
 pub many_types : (parameters : List FieldType) → length (types_of parameters) ≡ length parameters
 many_types parameters = length-map (reverse parameters) operand_of ∙ length-reverse parameters
 
+-- what is made of one so many from the last
+pub last_at : {A B : Type 0} (of : A → B) (parameters : List A) (count depth : ℕ) (p : A) → count ≡ length parameters → depth < count
+    → p ≡ get_or parameters (count - 1 - depth) p → slice_get (map of (reverse parameters)) depth ≡ Some (of p)
+last_at of parameters count depth p long lt at =
+    let within : depth < length (reverse parameters) = let k = length-reverse parameters in omega arith in
+    slice_get-map of (reverse parameters) depth
+    ∙ ap (option_map of) (slice_get-get_or (reverse parameters) depth p within)
+    ∙ ap (λ x. Some (of x)) (get_or-reverse parameters depth p (let k = long in omega arith)
+    ∙ ap (λ n. get_or parameters (n - 1 - depth) p) (sym long) ∙ sym at)
+
 -- the type of one so many from the last
 pub type_at : (parameters : List FieldType) (count depth : ℕ) (p : FieldType) → count ≡ length parameters → depth < count
     → p ≡ get_or parameters (count - 1 - depth) p → slice_get (types_of parameters) depth ≡ Some (operand_of p)
-type_at parameters count depth p long lt at =
-    let within : depth < length (reverse parameters) = let k = length-reverse parameters in omega arith in
-    slice_get-map operand_of (reverse parameters) depth
-    ∙ ap (option_map operand_of) (slice_get-get_or (reverse parameters) depth p within)
-    ∙ ap (λ x. Some (operand_of x)) (get_or-reverse parameters depth p (let k = long in omega arith)
-    ∙ ap (λ n. get_or parameters (n - 1 - depth) p) (sym long) ∙ sym at)
+type_at parameters = last_at operand_of parameters
