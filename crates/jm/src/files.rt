@@ -1,10 +1,12 @@
 // Files from their names.
 
-ghost use Rattle.std.specs.Prelude.{◌≡◌, IfOk, None, [], map, option_map, string_bytes};
-ghost use Rattle.jm_command.specs.Named.{AreNamed, name_of};
+ghost use Rattle.std.specs.Prelude.{◌≡◌, IfOk, OnOk, MatchResult, None, [], map, option_map, string_bytes};
+ghost use Rattle.jm.specs.Program.{AreRead};
+ghost use Rattle.jm_command.specs.Named.{name_of};
 
+use crate::program::{ProgramFault, program_files};
 use crate::sources::sources_of;
-use jm_command::{FilesRead, file_named, folder_named, program_named};
+use jm_command::{FilesRead, file_named, folder_named, program_asked};
 use jm_execute::{Contents, InputFile};
 use jm_options::Options;
 use jm_page::Source;
@@ -12,8 +14,8 @@ use std::alloc::AllocError;
 use std::fs;
 use std::io::ErrorKind;
 
-// The file of a name, with what reading it came to. The error says that a growth was refused.
-fn input_file(rt: &HostRuntime, name: &str) -> Result<InputFile, AllocError>
+/// The file of a name, with what reading it came to. The error says that a growth was refused.
+pub fn input_file(rt: &HostRuntime, name: &str) -> Result<InputFile, AllocError>
     ensures { IfOk result (λ file. name_of file ≡ name.now) }
 {
     let name = String::from_str(rt.alloc(), name)?;
@@ -27,8 +29,8 @@ fn input_file(rt: &HostRuntime, name: &str) -> Result<InputFile, AllocError>
     Ok(InputFile { name, contents })
 }
 
-// The files of these names, in order.
-fn input_files(rt: &HostRuntime, names: &[String]) -> Result<Vec<InputFile>, AllocError>
+/// The files of these names, in order.
+pub fn input_files(rt: &HostRuntime, names: &[String]) -> Result<Vec<InputFile>, AllocError>
     ensures { IfOk result (λ files. map (λ file. name_of file) files.items ≡ map (λ name. string_bytes name) names.now) }
 {
     let mut files = Vec::with_capacity(rt.alloc(), names.len())?;
@@ -62,13 +64,15 @@ fn sources_if_named(
     }
 }
 
-/// The files that options name, with what reading them came to. The error says that a growth was
-/// refused.
-pub fn files_read(rt: &HostRuntime, asked: &Options) -> Result<FilesRead, AllocError>
-    ensures { IfOk result (AreNamed asked.now) }
+/// The files that options name and those that are found for them, with what reading them came to.
+pub fn files_read(rt: &HostRuntime, asked: &Options) -> Result<FilesRead, ProgramFault>
+    ensures { IfOk result (AreRead asked.now) }
 {
     let named = file_if_named(rt, file_named(asked))?;
-    let program = input_files(rt, program_named(asked))?;
+    let program = match program_asked(asked) {
+        Some(asked) => program_files(rt, asked)?,
+        None => Vec::new(rt.alloc()),
+    };
     let sources = sources_if_named(rt, folder_named(asked), &program)?;
     Ok(FilesRead {
         named,

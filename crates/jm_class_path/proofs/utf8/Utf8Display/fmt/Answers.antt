@@ -2,7 +2,7 @@
 use Rattle.std.proofs.Common.{◌++◌, ◌∙◌, ap, sym, append_assoc, rules, encode_utf8}
 use Rattle.std.proofs.Output.{has_written_append}
 use Rattle.jm_world.specs.Text.{utf8_text}
-use Rattle.jm.proofs.utf8.Utf8Display.fmt.Goals as goal
+use Rattle.jm_class_path.proofs.utf8.Utf8Display.fmt.Goals as goal
 
 pub loop-character-preserved : goal.loop-character-preserved
 loop-character-preserved g c =

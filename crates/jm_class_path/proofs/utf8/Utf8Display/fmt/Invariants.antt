@@ -2,7 +2,7 @@
 use Rattle.std.proofs.Common.{◌≡◌, List, ℕ, ◌++◌, length}
 use Rattle.std.specs.Fmt.{HasWritten, IsPlainFormatter}
 use Rattle.jm_world.specs.Text.{utf8_text}
-use Rattle.jm.proofs.utf8.Utf8Display.fmt.Given as goal
+use Rattle.jm_class_path.proofs.utf8.Utf8Display.fmt.Given as goal
 
 abbrev pub invariant-loop-character : goal.invariant-loop-character
 invariant-loop-character g l =

@@ -1,0 +1,4 @@
+pub mod NamesBehind
+pub mod Known
+pub mod Steps
+pub mod Leading

@@ -1,0 +1,4 @@
+pub mod Uses
+pub mod Search
+pub mod Places
+pub mod Lookups
