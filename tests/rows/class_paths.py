@@ -57,6 +57,22 @@ def linked(files, folder="d", **wanted):
     return Call(["run", "--path", folder, "Main.j"], {"Main.j": main, **files}, left=None, **wanted)
 
 
+def subclass(name, superclass):
+    """Returns a class file of a class without members (JVMS 4.1)."""
+    def in_pool(units):
+        return b"\x01" + len(units).to_bytes(2, "big") + units
+
+    pool = in_pool(name) + b"\x07\x00\x01" + in_pool(superclass) + b"\x07\x00\x03"
+    return bytes.fromhex("CAFEBABE 0000 0031 0005") + pool + bytes.fromhex("0021 0002 0004 0000 0000 0000 0000")
+
+
+def below(name, **wanted):
+    """Returns the call of a class whose superclass has a name that a path may not have, though its file lies there."""
+    superclass = name.encode()
+    files = {"Main.class": subclass(b"Main", superclass), f"d/{name}.class": subclass(superclass, b"java/lang/Object")}
+    return Call(["check", "--list", "--path", "d", "Main.class"], files, **wanted)
+
+
 SEVENTH = text("its/C7", "static f()V", PRINTS.format(number=7))
 NOWHERE = {"lines": b"jm: 51 NoClass(its/C7)\n", "status": 4}
 CALLS = {
@@ -68,6 +84,11 @@ CALLS = {
     "a link to the folder": lambda: linked({"d/its/C7.j": SEVENTH, "l": Link("d", False)}, "l", output=b"7\n"),
     "a link to nothing": lambda: linked({"d/its/D.j": SEVENTH, "d/its/C7.j": Link("nowhere", False)}, **NOWHERE),
     "a link to itself": lambda: linked({"d/its/D.j": SEVENTH, "d/its/C7.j": Link("C7.j", False)}, **NOWHERE),
+    "a line feed in a name": lambda: below("E\nx", output=b"Main.class\n"),
+    "U+007F in a name": lambda: below("E\x7fx", output=b"Main.class\n"),
+    "U+0085 in a name": lambda: below("E\x85x", output=b"Main.class\n"),
+    "a blank in a name": lambda: below("its/E x", output=b"Main.class\nd/its/E x.class\n"),
+    "a backslash in a name": lambda: below("its/E\\x", output=b"Main.class\nd/its/E\\x.class\n"),
     "a star is listed": lambda: Call(["check", "--list", "--path", "d", "Main.j"], star(), output=listed(range(MANY))),
 }
 

@@ -3,3 +3,4 @@ pub mod Known
 pub mod Steps
 pub mod Leading
 pub mod Finding
+pub mod MainClass

@@ -1,5 +1,6 @@
 -- The files of a program: those that are given, and behind them those that are found by the names of their classes.
-use Rattle.std.specs.Prelude.{◌≡◌, ℕ, ◌+◌, List, [], ◌∷◌, ◌++◌, Option, Some, None, Bool, false, is_none, ⊤, map, option_map, position, take, drop}
+use Rattle.std.specs.Prelude.{◌≡◌, ℕ, List, [], ◌∷◌, ◌++◌, Option, Some, None, Bool, false, is_none, ⊤, map, option_map, position, take, drop}
+use Rattle.std.specs.List.{remove}
 use Rattle.jm_program.specs.Names.{same_text}
 use Rattle.jm_program.specs.declared.class.ClassParts.{ClassParts}
 use Rattle.jm_class_path.specs.Files.{FileFacts, IsFoundAs, classes_held}
@@ -37,9 +38,9 @@ or_else None next = next
 abbrev pub main_at : Name → List (Option ClassParts) → Option ℕ
 main_at name classes = or_else (position (is_of name) classes) (position is_none classes)
 
--- with the one of a number in front of the others
+-- the one of a number, and behind it the others
 abbrev pub with_front : {F : Type 0} → ℕ → List F → List F
-with_front n files = take 1 (drop n files) ++ take n files ++ drop (n + 1) files
+with_front n files = take 1 (drop n files) ++ remove files n
 
 -- where the main class is named, its file in front; none where no file can be that
 abbrev pub with_main : {F : Type 0} → FileFacts F → Option Name → List F → Option (List F)

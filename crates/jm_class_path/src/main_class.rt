@@ -1,6 +1,6 @@
 // The main class of a program, where it is named.
 
-ghost use Rattle.std.specs.Prelude.{◌≡◌, ◌<◌, Some, IfOk, IfSome, MatchResult, length, map, option_map, vec_len};
+ghost use Rattle.std.specs.Prelude.{◌≡◌, ◌<◌, Some, IfOk, IfSome, MatchResult, OnOk, is_none, length, map, option_map, position, vec_len};
 ghost use Rattle.jm_class_path.specs.Places.{written_name};
 ghost use Rattle.jm_class_path.specs.Programs.{AreWithoutMain, is_of, main_at, with_front, with_main};
 
@@ -35,24 +35,42 @@ fn is_of(name: &Name, class: &Option<Class>) -> bool
     }
 }
 
+// Where the class of a name stands.
+fn place_of(name: &Name, classes: &[Option<Class>]) -> Option<usize>
+    ensures place { result ≡ position (is_of name.now) classes.now }
+    ensures within { IfSome result (λ number. number < length classes.now) }
+{
+    classes.iter().position(|class| is_of(name, class))
+}
+
+// Where no class stands first.
+fn first_without(classes: &[Option<Class>]) -> Option<usize>
+    ensures place { result ≡ position is_none classes.now }
+    ensures within { IfSome result (λ number. number < length classes.now) }
+{
+    classes.iter().position(|class| class.is_none())
+}
+
 // Where the main class of a name stands: or else the first file that holds no class, since that may be
 // its file.
 fn main_at(name: &Name, classes: &[Option<Class>]) -> Option<usize>
     ensures place { result ≡ main_at name.now classes.now }
     ensures within { IfSome result (λ number. number < length classes.now) }
 {
-    match classes.iter().position(|class| is_of(name, class)) {
+    match place_of(name, classes) {
         Some(number) => Some(number),
-        None => classes.iter().position(|class| class.is_none()),
+        None => first_without(classes),
     }
 }
 
-// Puts one in front of the others.
-fn put_in_front<F: Drop>(files: &mut Vec<F>, number: usize)
+// Puts the one of a number in front of the others.
+fn put_in_front<F: Drop>(files: &mut Vec<F>, number: usize) -> Result<(), AllocError>
     requires { number < vec_len files.old }
-    ensures { files.new.items ≡ with_front number files.old.items }
+    ensures { OnOk result (files.new.items ≡ with_front number files.old.items) }
 {
-    files[..=number].rotate_right(1);
+    let file = files.remove(number);
+    files.insert(0, file)?;
+    Ok(())
 }
 
 /// The files with that of the main class in front, where it is named. `NoMain`: none holds it, and each
@@ -73,7 +91,7 @@ pub fn with_main<F: Drop, R: FileReader<F>>(
     let classes = classes_in(alloc, reader, &files)?;
     match main_at(&name, &classes) {
         Some(number) => {
-            put_in_front(&mut files, number);
+            put_in_front(&mut files, number)?;
             Ok(files)
         }
         None => Err(ProgramFault::NoMain(name)),
