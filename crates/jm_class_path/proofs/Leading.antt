@@ -5,7 +5,7 @@ use Rattle.std.proofs.lemmas.List.{map_push}
 use Rattle.std.proofs.lemmas.List.Concat.{flat_map-append}
 use Rattle.std.proofs.lemmas.List.Elements.{All-push}
 use Rattle.jm_program.specs.declared.class.ClassParts.{ClassParts}
-use Rattle.jm_class_path.specs.declared.finder.Found.{Found}
+use Rattle.jm_class_path.specs.declared.folders.Found.{Found}
 use Rattle.jm_class_path.specs.Lookups.{Finds, IsLookup, Lead, Lookup, class_of_found, if_found, step_of}
 use Rattle.jm_class_path.specs.Search.{Leads, Search, Step, looked_for, next_name}
 use Rattle.jm_class_path.specs.Uses.{Name}

@@ -1,5 +1,7 @@
 -- One lookup more, and one name more that is known.
-use Rattle.std.proofs.Common.{◌^◌, length, sym}
+use Rattle.std.proofs.Common.{◌^◌, length, map, sym}
+use Rattle.std.specs.String.{string_bytes}
+use Rattle.jm_class_path.specs.Files.{IsFoundAs}
 use Rattle.jm_class_path.proofs.Leading.{behind_name, falls_short, finds_pair, one_known, one_lookup_more, pair_of}
 use Rattle.jm_class_path.proofs.finder.find_classes.Goals as goal
 
@@ -11,7 +13,8 @@ loop-name-smaller g c =
 
 pub loop-name-preserved : goal.loop-name-preserved
 loop-name-preserved g c =
+    let finds = IsFoundAs g.R.FileReader.facts (map (λ folder. string_bytes folder) c.args.folders.now) in
     let next = sym c.in-Some.ensures.name in
     let after = behind_name c.loop-name.path c.in_ok-path-2.path c.in-Some.name.now _ next c.in_ok-path-2.ensures.path in
-    one_lookup_more (g.L.ClassFinder.finds c.args.finder.now) _ c.loop-name.path c.in_ok-path-2.path c.loop-name.files.items c.behind.new.files.items c.in-Some.name.now (pair_of c.in_ok-found.found)
-    c.loop-name.invariant next (finds_pair _ c.in_ok-found.found c.in_ok-found.ensures.finds) after c.in_ok-path-2.ensures.files
+    one_lookup_more finds _ c.loop-name.path c.in_ok-path-2.path c.loop-name.files.items c.behind.new.files.items c.in-Some.name.now (pair_of c.in_ok-found.found)
+    c.loop-name.invariant next (finds_pair (finds c.in-Some.name.now) c.in_ok-found.found c.in_ok-found.ensures) after c.in_ok-path-2.ensures.files
