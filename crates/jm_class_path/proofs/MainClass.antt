@@ -24,10 +24,15 @@ module _ {F : Type 0} (facts : FileFacts F) (main : Option Name) (name : Name) (
       ∙ ap (λ fs. option_map (λ n. with_front n files) (main_at name (map facts.class_in fs))) (sym same)
       ∙ ap (λ cs. option_map (λ n. with_front n files) (main_at name cs)) (sym held)
 
-  -- some file can be that of the main class
-  pub with_main_there : (n : ℕ) (all : List F) → Some n ≡ main_at name classes → all ≡ with_front n files → with_main facts main files ≡ Some all
-  with_main_there n all at front = main_is_at ∙ ap (λ o. option_map (λ n. with_front n files) o) (sym at) ∙ ap (λ fs. Some fs) (sym front)
+  module _ (seen : List (Option ClassParts)) (seen_is : seen ≡ classes) where
+    -- some file can be that of the main class
+    pub with_main_there : (n : ℕ) (all : List F) → Some n ≡ main_at name seen → all ≡ with_front n files → with_main facts main files ≡ Some all
+    with_main_there n all at front =
+        main_is_at ∙ ap (λ cs. option_map (λ n. with_front n files) (main_at name cs)) (sym seen_is)
+        ∙ ap (λ o. option_map (λ n. with_front n files) o) (sym at) ∙ ap (λ fs. Some fs) (sym front)
 
-  -- none can
-  pub without_main : None ≡ main_at name classes → with_main facts main files ≡ None
-  without_main at = main_is_at ∙ ap (λ o. option_map (λ n. with_front n files) o) (sym at)
+    -- none can
+    pub without_main : None ≡ main_at name seen → with_main facts main files ≡ None
+    without_main at =
+        main_is_at ∙ ap (λ cs. option_map (λ n. with_front n files) (main_at name cs)) (sym seen_is)
+        ∙ ap (λ o. option_map (λ n. with_front n files) o) (sym at)

@@ -6,7 +6,7 @@
 //! those of the classes that were found, and none that a given or a built-in class has. The places of a name lie below
 //! folders; a name that would lead out of them has none. [`program_files`] gives the files of a program: those that are
 //! named, behind them those that are found, and in front of all that of the main class, where it is named. The files are
-//! read by a [`FileReader`]. [`written_name`] is the name that a user writes.
+//! read by a [`FileReader`].
 //!
 //! The work of a search is linear in what the classes name: the names lie in an index. The crate stands on `jm_program`,
 //! `jm_builtins`, for the texts of names on `jm_world`, and on `indexmap`.
@@ -26,7 +26,6 @@ mod reader;
 mod uses;
 mod utf8;
 
-pub use class_name::written_name;
 pub use fault::ProgramFault;
 pub use program::program_files;
 pub use reader::FileReader;
