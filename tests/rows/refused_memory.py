@@ -57,6 +57,7 @@ COMMANDS = (
     Job("version", "whole", {"early": 92}),
     Job("check sum.class", "whole", {"early": 420}),
     Job("check jobs/Concat.class", "whole", {"early": 500}, status=4),
+    Job("check --list --path jobs --main Outer jobs/Outer.class", "whole", {"early": 545}),
     Job("why --steps 8 sum.class", "told", {"early": 550, "late": 1}, status=8),
     Job("why jobs/ByZero.class", "told", {"early": 530, "late": 1}, status=3),
     Job("run --heap 111 memory/collects.j", "beginning", {"early": 185, "same": 150}, 3),

@@ -39,6 +39,7 @@ WHOLES = [
     (["dis", "A.j"], {"A.j": EMPTY_CLASS}, TEXT, b"", 0, FAILED),
     (["debug", "A.j"], {"A.j": FIVE}, b"? 80 BadCommand\n", b"", 0, FAILED),
     (["trace", "--most", "2", "A.j"], {"A.j": FIVE}, TWO_EVENTS, b"", 0, FAILED),
+    (["check", "--list", "A.j"], {"A.j": EMPTY_CLASS}, b"A.j\n", b"", 0, FAILED),
 ]
 
 

@@ -8,27 +8,35 @@
 //! standard streams or the file to write, and ends with the status.
 #![tactic(auto)]
 
+ghost use Rattle.jm_command.specs.Named.{IsNamed};
+
+mod disk;
 mod files;
+mod listing;
+mod no_main;
 mod output;
 mod sources;
-mod utf8;
 mod word;
 mod written;
 
 use files::files_read;
-use jm_command::{Command, Execution, command_of};
+use jm_class_path::ProgramFault;
+use jm_command::{Command, Execution, FilesRead, command_of};
 use jm_execute::{
     Status, Watched, check, execute, explain, film, tell_unwritten, tell_version, trace, why,
     write_out_of_memory,
 };
-use jm_options::{UsageFault, options, read_and_written};
+use jm_options::{Options, UsageFault, options, read_and_written};
+use jm_program::Name;
+use listing::list;
+use no_main::tell_no_main;
 use output::Output;
 use std::fs;
 use std::process::ExitCode;
 use std::sync::Wait;
 use std::thread::Threads;
 use word::{WordsFault, words};
-use written::written_over;
+use written::{written_over, written_over_program};
 
 // Does a job, with its output where it belongs, and writes its record to its file, where one is named and there is a
 // record. A run may start threads, and wait for its machine's lock, and a session for a line.
@@ -85,12 +93,34 @@ fn done(rt: &HostRuntime, wait: &(impl Threads + Wait + Sync), command: &Command
     match command {
         Command::Execute(execution) => executed(rt, wait, execution),
         Command::Check(files) => check(alloc, files, &mut out, &mut err),
+        Command::List(files) => list(alloc, files, &mut out, &mut err),
         Command::Why(job) => why(wait, alloc, job, &mut out, &mut err),
         Command::Trace(job) => trace(wait, alloc, job, &mut out, &mut err),
         Command::Film(job) => film(wait, alloc, job, &mut out, &mut err),
         Command::Explain(entry) => explain(alloc, *entry, &mut out, &mut err),
         Command::Version => tell_version(&mut out, &mut err),
     }
+}
+
+// Does what is asked for with the files that were read. A file that was found is not written.
+fn with_files(
+    rt: &HostRuntime,
+    wait: &(impl Threads + Wait + Sync),
+    asked: Options,
+    files: FilesRead,
+) -> Status
+    requires { IsNamed asked files }
+{
+    if let Some(name) = written_over_program(rt, &asked, &files.program) {
+        return not_done(rt, &read_and_written(rt.alloc(), name));
+    }
+    done(rt, wait, &command_of(asked, files))
+}
+
+// Says that the main class of a name is not there.
+fn without_main(rt: &HostRuntime, name: Name) -> Status {
+    let mut err = Watched::new(rt.stderr());
+    tell_no_main(rt.alloc(), name, &mut err)
 }
 
 // Reads the command line and the files that it names, and does what is asked for. A file that is read is not written.
@@ -114,8 +144,9 @@ fn status(rt: &HostRuntime, wait: &(impl Threads + Wait + Sync)) -> Status {
         return not_done(rt, &read_and_written(rt.alloc(), name));
     }
     match files_read(rt, &asked) {
-        Ok(files) => done(rt, wait, &command_of(asked, files)),
-        Err(_) => out_of_memory(rt),
+        Ok(files) => with_files(rt, wait, asked, files),
+        Err(ProgramFault::NoMain(name)) => without_main(rt, name),
+        Err(ProgramFault::OutOfMemory) => out_of_memory(rt),
     }
 }
 

@@ -1,6 +1,6 @@
 // The sources of a program's classes, below a folder.
 
-use crate::utf8::Utf8;
+use jm_class_path::Utf8;
 use jm_execute::{InputFile, class_of};
 use jm_page::Source;
 use jm_program::Class;

@@ -1,6 +1,7 @@
 // The file that is written, beside those that are read.
 
-use jm_command::{file_named, file_written, program_named};
+use jm_command::{file_named, file_written, program_asked};
+use jm_execute::InputFile;
 use jm_options::Options;
 use std::fs;
 use std::os::unix::fs::MetadataExt;
@@ -32,7 +33,10 @@ fn is_read(rt: &HostRuntime, asked: &Options, file: RegularFile) -> bool {
             return true;
         }
     }
-    for name in program_named(asked) {
+    let Some(program) = program_asked(asked) else {
+        return false;
+    };
+    for name in &program.files {
         if regular_file(rt, name) == Some(file) {
             return true;
         }
@@ -49,4 +53,20 @@ pub fn written_over<'a>(rt: &HostRuntime, asked: &'a Options) -> Option<&'a str>
     } else {
         None
     }
+}
+
+/// The name of the file that is written, where it is a regular file and one of a program's.
+pub fn written_over_program<'a>(
+    rt: &HostRuntime,
+    asked: &'a Options,
+    program: &[InputFile],
+) -> Option<&'a str> {
+    let name = file_written(asked)?;
+    let file = regular_file(rt, name)?;
+    for read in program {
+        if regular_file(rt, &read.name) == Some(file) {
+            return Some(name);
+        }
+    }
+    None
 }

@@ -1,5 +1,5 @@
 -- What options ask for, with the files that were read for them.
-use Rattle.std.specs.Prelude.{◌≡◌, ◌≤◌, ◌-◌, ℕ, Option, Some, None, is_some, option_map}
+use Rattle.std.specs.Prelude.{◌≡◌, ◌≤◌, ◌-◌, ℕ, Option, Some, None, is_some, option_map, if◌then◌else◌}
 use Rattle.std.specs.Global.{Vec}
 use Rattle.jm_heap.specs.declared.heap.Kind.{Kind}
 use Rattle.jm_heap.specs.declared.heap.Kind.TheVariants as kind
@@ -8,6 +8,7 @@ use Rattle.jm_options.specs.declared.request.Options.TheVariants.{Run, Replay, E
 use Rattle.jm_options.specs.declared.request.RunOptions.{RunOptions}
 use Rattle.jm_options.specs.declared.request.ReplayOptions.{ReplayOptions}
 use Rattle.jm_options.specs.declared.request.ExploreOptions.{ExploreOptions}
+use Rattle.jm_options.specs.declared.request.CheckOptions.{CheckOptions}
 use Rattle.jm_options.specs.declared.request.SerialRun.{SerialRun}
 use Rattle.jm_options.specs.declared.request.TraceOptions.{TraceOptions}
 use Rattle.jm_options.specs.declared.request.FilmOptions.{FilmOptions}
@@ -126,12 +127,16 @@ pub record IsFilmJob (o : FilmOptions) (files : FilesRead) (j : FilmJob) : Type 
 abbrev pub Executes : Command → Job → Type 0
 Executes c j = c ≡ command.Execute (record { job = j; record_file = None })
 
+-- what a check comes to: of files all that is refused, or their names
+abbrev pub check_command : CheckOptions → Vec InputFile → Command
+check_command o classes = if o.list then command.List classes else command.Check classes
+
 -- the command is what the options ask for, with the files that were read for them
 abbrev pub AsksFor : Options → FilesRead → Command → Type 0
 AsksFor (Run o) files c = (j : RunJob) × IsRunJob o files j × (c ≡ command.Execute (record { job = job.Run j; record_file = o.record_file }))
 AsksFor (Replay o) files c = (recorded : InputFile) × (files.named ≡ Some recorded) × ((j : ReplayJob) × IsReplayJob o recorded files.program j × Executes c (job.Replay j))
 AsksFor (Explore o) files c = (j : ExploreJob) × IsExploreJob o files.program j × Executes c (job.Explore j)
-AsksFor (Check o) files c = c ≡ command.Check files.program
+AsksFor (Check o) files c = c ≡ check_command o files.program
 AsksFor (Why o) files c = (j : ToldJob) × IsToldJob o o.steps files.named files.program j × (c ≡ command.Why j)
 AsksFor (Trace o) files c = (j : TraceJob) × IsTraceJob o files j × (c ≡ command.Trace j)
 AsksFor (Film o) files c = (j : FilmJob) × IsFilmJob o files j × (c ≡ command.Film j)

@@ -1,8 +1,9 @@
--- The files that a command line names, and those that were read for it.
-use Rattle.std.specs.Prelude.{◌≡◌, ℕ, List, [], Option, Some, None, map, option_map, string_bytes}
+-- What a command line names: files, a program and folders; and the file that was read beside the program.
+use Rattle.std.specs.Prelude.{◌≡◌, ℕ, List, Option, Some, None, option_map, string_bytes}
 use Rattle.jm_job.specs.declared.job.InputFile.{InputFile}
 use Rattle.jm_options.specs.declared.request.Options.{Options}
 use Rattle.jm_options.specs.declared.request.Options.TheVariants.{Run, Replay, Explore, Check, Why, Trace, Film, Assemble, Disassemble, Debug, Explain, Version}
+use Rattle.jm_options.specs.declared.request.ProgramOptions.{ProgramOptions}
 use Rattle.jm_command.specs.declared.files_read.FilesRead.{FilesRead}
 
 -- the bytes of a name
@@ -24,20 +25,20 @@ file_named (Debug o) = None
 file_named (Explain o) = None
 file_named Version = None
 
--- the files of the program, in their order
-abbrev pub program_named : Options → List Name
-program_named (Run o) = map string_bytes o.files.items
-program_named (Replay o) = map string_bytes o.files.items
-program_named (Explore o) = map string_bytes o.files.items
-program_named (Check o) = map string_bytes o.files.items
-program_named (Why o) = map string_bytes o.files.items
-program_named (Trace o) = map string_bytes o.run.files.items
-program_named (Film o) = map string_bytes o.run.files.items
-program_named (Assemble o) = []
-program_named (Disassemble o) = []
-program_named (Debug o) = map string_bytes o.files.items
-program_named (Explain o) = []
-program_named Version = []
+-- the program
+abbrev pub program_asked : Options → Option ProgramOptions
+program_asked (Run o) = Some o.program
+program_asked (Replay o) = Some o.program
+program_asked (Explore o) = Some o.program
+program_asked (Check o) = Some o.program
+program_asked (Why o) = Some o.program
+program_asked (Trace o) = Some o.run.program
+program_asked (Film o) = Some o.run.program
+program_asked (Assemble o) = None
+program_asked (Disassemble o) = None
+program_asked (Debug o) = Some o.program
+program_asked (Explain o) = None
+program_asked Version = None
 
 -- the folder of the sources of a film
 abbrev pub folder_named : Options → Option Name
@@ -54,8 +55,6 @@ file_written _ = None
 abbrev pub name_of : InputFile → Name
 name_of file = string_bytes file.name
 
--- the files are those that are named, each of them and no other, and there are sources only of a folder that is named
-pub record AreNamed (o : Options) (files : FilesRead) : Type 0 where
-  pub named : option_map name_of files.named ≡ file_named o
-  pub program : map name_of files.program.items ≡ program_named o
-  pub sources : folder_named o ≡ None → files.sources.items ≡ []
+-- the file that is named beside the program's was read, and no other
+abbrev pub IsNamed : Options → FilesRead → Type 0
+IsNamed o files = option_map name_of files.named ≡ file_named o

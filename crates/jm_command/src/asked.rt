@@ -1,8 +1,8 @@
 // What options and the files that were read for them come to.
 
 ghost use Rattle.std.specs.Prelude.{◌≡◌, None};
-ghost use Rattle.jm_command.specs.Named.{AreNamed};
-ghost use Rattle.jm_command.specs.Commands.{AsksFor, Executes};
+ghost use Rattle.jm_command.specs.Named.{IsNamed};
+ghost use Rattle.jm_command.specs.Commands.{AsksFor, Executes, check_command};
 
 use crate::command::{Command, Execution};
 use crate::copiers::copiers;
@@ -11,8 +11,8 @@ use crate::files_read::FilesRead;
 use crate::replay::replay_job;
 use crate::run::run_job;
 use crate::told::{film_job, told_job, trace_job};
-use jm_job::{AssembleJob, DebugJob, DisassembleJob, Job};
-use jm_options::Options;
+use jm_job::{AssembleJob, DebugJob, DisassembleJob, InputFile, Job};
+use jm_options::{CheckOptions, Options};
 
 // To do a job without a record.
 fn without_record(job: Job) -> Command
@@ -24,9 +24,20 @@ fn without_record(job: Job) -> Command
     })
 }
 
+// To check files, or to list them.
+fn check_command(asked: &CheckOptions, program: Vec<InputFile>) -> Command
+    ensures { result ≡ check_command asked.now program }
+{
+    if asked.list {
+        Command::List(program)
+    } else {
+        Command::Check(program)
+    }
+}
+
 /// What options ask for, with the files that were read for them.
 pub fn command_of(asked: Options, files: FilesRead) -> Command
-    requires { AreNamed asked files }
+    requires { IsNamed asked files }
     ensures { AsksFor asked files result }
 {
     match asked {
@@ -39,7 +50,7 @@ pub fn command_of(asked: Options, files: FilesRead) -> Command
             without_record(Job::Replay(job))
         }
         Options::Explore(asked) => without_record(Job::Explore(explore_job(&asked, files.program))),
-        Options::Check(_) => Command::Check(files.program),
+        Options::Check(asked) => check_command(&asked, files.program),
         Options::Why(asked) => Command::Why(told_job(&asked, files)),
         Options::Trace(asked) => Command::Trace(trace_job(&asked, files)),
         Options::Film(asked) => Command::Film(film_job(&asked, files)),

@@ -26,6 +26,8 @@ pub enum Command {
     Execute(Execution),
     /// `jm check` of these files.
     Check(Vec<InputFile>),
+    /// `jm check --list` of these files.
+    List(Vec<InputFile>),
     /// `jm why`.
     Why(ToldJob),
     /// `jm trace`.
@@ -44,6 +46,7 @@ impl Drop for Command {
         match self {
             Command::Execute(_)
             | Command::Check(_)
+            | Command::List(_)
             | Command::Why(_)
             | Command::Trace(_)
             | Command::Film(_)

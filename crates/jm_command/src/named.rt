@@ -1,9 +1,9 @@
 // The files that a command line names.
 
-ghost use Rattle.std.specs.Prelude.{◌≡◌, map, option_map, string_bytes};
-ghost use Rattle.jm_command.specs.Named.{file_named, file_written, folder_named, program_named};
+ghost use Rattle.std.specs.Prelude.{◌≡◌, option_map};
+ghost use Rattle.jm_command.specs.Named.{file_named, file_written, folder_named, program_asked};
 
-use jm_options::Options;
+use jm_options::{Options, ProgramOptions};
 
 /// The file that is named beside the program's, if one is: a schedule, a record, a text or a class.
 pub fn file_named(asked: &Options) -> Option<&str>
@@ -25,21 +25,21 @@ pub fn file_named(asked: &Options) -> Option<&str>
     }
 }
 
-/// The files of the program that is named, in their order; none where no program is.
-pub fn program_named(asked: &Options) -> &[String]
-    ensures { map (λ name. string_bytes name) result.now ≡ program_named asked.now }
+/// The program that is asked for, if one is.
+pub fn program_asked(asked: &Options) -> Option<&ProgramOptions>
+    ensures { option_map (λ program. program.now) result ≡ program_asked asked.now }
 {
     match asked {
-        Options::Run(asked) => &asked.files,
-        Options::Replay(asked) => &asked.files,
-        Options::Explore(asked) => &asked.files,
-        Options::Check(asked) => &asked.files,
-        Options::Why(asked) => &asked.files,
-        Options::Trace(asked) => &asked.run.files,
-        Options::Film(asked) => &asked.run.files,
-        Options::Debug(asked) => &asked.files,
+        Options::Run(asked) => Some(&asked.program),
+        Options::Replay(asked) => Some(&asked.program),
+        Options::Explore(asked) => Some(&asked.program),
+        Options::Check(asked) => Some(&asked.program),
+        Options::Why(asked) => Some(&asked.program),
+        Options::Trace(asked) => Some(&asked.run.program),
+        Options::Film(asked) => Some(&asked.run.program),
+        Options::Debug(asked) => Some(&asked.program),
         Options::Assemble(_) | Options::Disassemble(_) | Options::Explain(_) | Options::Version =>
-            &[],
+            None,
     }
 }
 

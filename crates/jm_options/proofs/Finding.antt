@@ -1,7 +1,7 @@
 -- What the matches of a subcommand hold, from what the calls of clap say of them.
-use Rattle.std.proofs.Common.{◌≡◌, true, false, find, [], ◌∷◌, inl, inr, ℕ, ◌<◌, ◌^◌, List, Option, Some, None, Result, Ok, Err, refl, sym, ap, ◌∙◌, subst, codes, arith, ap₂}
+use Rattle.std.proofs.Common.{◌≡◌, true, false, find, [], ◌∷◌, inl, inr, ℕ, ◌<◌, ◌≤◌, ◌^◌, List, Option, Some, None, Result, Ok, Err, refl, sym, ap, ◌∙◌, subst, codes, arith, ap₂}
 use Rattle.std.proofs.lemmas.Slice.Eq.{bytes_eq-Decides}
-use Rattle.std.specs.Prelude.{option_map, unwrap_or, MatchOption, MatchResult, IsOkAnd, IsErrAnd}
+use Rattle.std.specs.Prelude.{option_map, unwrap_or, IfSome, MatchOption, MatchResult, IsOkAnd, IsErrAnd}
 use Rattle.std.specs.Str.{bytes_eq}
 use Rattle.std.specs.String.{string_bytes}
 use Rattle.std.specs.Str.Parse.{ParsesUnsigned, digits_value, without_leading_plus}
@@ -87,6 +87,15 @@ pub no_given : (name : Text) (low high : ℕ) (rows : List Row) (t : Text) → S
     → (o : Option ℕ) → MayHoldNumber name low high rows o → ⊥
 no_given name low high rows t given none None holds = let is = given ∙ holds in cc
 no_given name low high rows t given none (Some n) holds = none n holds
+
+-- a number that is given is within the limits
+pub given_least : (name : Text) (low high : ℕ) (rows : List Row) (o : Option ℕ) → MayHoldNumber name low high rows o → IfSome o (λ n. low ≤ n)
+given_least name low high rows None holds = tt
+given_least name low high rows (Some n) holds = holds.at_least
+
+pub given_most : (name : Text) (low high : ℕ) (rows : List Row) (o : Option ℕ) → MayHoldNumber name low high rows o → IfSome o (λ n. n ≤ high)
+given_most name low high rows None holds = tt
+given_most name low high rows (Some n) holds = holds.at_most
 
 -- ---- a text
 

@@ -1,5 +1,5 @@
 -- What words ask of jm.
-use Rattle.std.specs.Prelude.{◌≡◌, ◌≤◌, ℕ, List, Option, Some, None, [], Result, Ok, Err, ⊤, Bool, false, find, codes, map, option_map, string_bytes}
+use Rattle.std.specs.Prelude.{◌≡◌, ◌≤◌, ℕ, List, Option, Some, None, [], Result, Ok, Err, ⊤, Bool, false, find, codes, map, option_map, string_bytes, unwrap_or}
 use Rattle.std.specs.Str.{bytes_eq}
 use Rattle.std.specs.Str.Parse.{IsNumeral, digits_value, without_leading_plus}
 use Rattle.clap.specs.Words.{Row, Text, all_of, first_of, one_of, fault_of, subcommand_of}
@@ -8,6 +8,7 @@ use Rattle.jm_explain.specs.Table.{items}
 use Rattle.jm_options.specs.CommandLine.{jm}
 use Rattle.jm_options.specs.declared.request.Options.{Options}
 use Rattle.jm_options.specs.declared.request.Options.TheVariants.{Run, Replay, Explore, Check, Why, Trace, Film, Assemble, Disassemble, Debug, Explain, Version}
+use Rattle.jm_options.specs.declared.request.ProgramOptions.{ProgramOptions}
 use Rattle.jm_options.specs.declared.request.RunOptions.{RunOptions}
 use Rattle.jm_options.specs.declared.request.Stress.{Stress}
 use Rattle.jm_options.specs.declared.request.Stress.TheVariants.{Minor, Full}
@@ -51,6 +52,12 @@ abbrev pub is_set : Option Text → Bool
 is_set None = false
 is_set (Some text) = bytes_eq text (codes "true")
 
+-- the classes of a program are what the matches say: the folders in which they are looked for, the main class if it is named, and the files
+pub record HoldsProgram (matches : List Row) (o : ProgramOptions) : Type 0 where
+  pub folders : unwrap_or (all_of (codes "path") matches) [] ≡ map string_bytes o.folders.items
+  pub main : first_of (codes "main") matches ≡ option_map string_bytes o.main
+  pub files : all_of (codes "file") matches ≡ Some (map string_bytes o.files.items)
+
 -- the options are what the matches say of a run by one worker, within the limits and with so many steps at most
 pub record HoldsSerialRun (most : ℕ) (matches : List Row) (o : SerialRun) : Type 0 where
   pub heap : HoldsNumber (codes "heap") 16 16777216 matches o.heap
@@ -58,7 +65,7 @@ pub record HoldsSerialRun (most : ℕ) (matches : List Row) (o : SerialRun) : Ty
   pub schedule : first_of (codes "schedule") matches ≡ option_map string_bytes o.schedule
   pub steps : HoldsNumber (codes "steps") 1 most matches o.steps
   pub quantum : HoldsNumber (codes "quantum") 1 1000000 matches o.quantum
-  pub files : all_of (codes "file") matches ≡ Some (map string_bytes o.files.items)
+  pub program : HoldsProgram matches o.program
 
 -- the word for a kind of collection
 abbrev pub stress_word : Stress → Text
@@ -78,7 +85,7 @@ serial_of o = record {
   schedule = o.schedule;
   steps = o.steps;
   quantum = o.quantum;
-  files = o.files;
+  program = o.program;
   least_heap = o.least_heap;
   most_heap = o.most_heap;
   some_copiers = o.some_copiers;
@@ -103,7 +110,7 @@ pub record HoldsReplay (matches : List Row) (o : ReplayOptions) : Type 0 where
   pub copiers : HoldsNumber (codes "copiers") 1 16 matches o.copiers
   pub show_heap : o.show_heap ≡ is_set (first_of (codes "show-heap") matches)
   pub record_file : first_of (codes "recorded") matches ≡ Some (string_bytes o.record_file)
-  pub files : all_of (codes "file") matches ≡ Some (map string_bytes o.files.items)
+  pub program : HoldsProgram matches o.program
 
 -- the options are what the matches of an exploration hold, and within the limits
 pub record HoldsExplore (matches : List Row) (o : ExploreOptions) : Type 0 where
@@ -113,11 +120,12 @@ pub record HoldsExplore (matches : List Row) (o : ExploreOptions) : Type 0 where
   pub slice : HoldsNumber (codes "slice") 1 1000000 matches o.slice
   pub outcome : MayHoldNumber (codes "outcome") 1 100000000 matches o.outcome
   pub heap : HoldsNumber (codes "heap") 16 16777216 matches o.heap
-  pub files : all_of (codes "file") matches ≡ Some (map string_bytes o.files.items)
+  pub program : HoldsProgram matches o.program
 
 -- the options are what the matches of a check hold
 pub record HoldsCheck (matches : List Row) (o : CheckOptions) : Type 0 where
-  pub files : all_of (codes "file") matches ≡ Some (map string_bytes o.files.items)
+  pub list : o.list ≡ is_set (first_of (codes "list") matches)
+  pub program : HoldsProgram matches o.program
 
 -- the options are what the matches of a trace hold, and within the limits
 pub record HoldsTrace (matches : List Row) (o : TraceOptions) : Type 0 where
@@ -147,7 +155,7 @@ pub record HoldsDisassemble (matches : List Row) (o : DisassembleOptions) : Type
 pub record HoldsDebug (matches : List Row) (o : DebugOptions) : Type 0 where
   pub heap : HoldsNumber (codes "heap") 16 16777216 matches o.heap
   pub copiers : HoldsNumber (codes "copiers") 1 16 matches o.copiers
-  pub files : all_of (codes "file") matches ≡ Some (map string_bytes o.files.items)
+  pub program : HoldsProgram matches o.program
 
 -- the matches hold a number of which the table says this
 pub record HoldsEntry (matches : List Row) (i : Item) : Type 0 where

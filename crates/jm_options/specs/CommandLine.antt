@@ -72,6 +72,18 @@ show_heap_argument = record (new_rule (codes "show-heap")) { long = Some (codes 
 abbrev pub file_argument : Rule
 file_argument = record (new_rule (codes "file")) { value_names = 1; required = true; action = Some Append }
 
+-- --path DIR, as often as one likes
+abbrev pub path_argument : Rule
+path_argument = record (new_rule (codes "path")) { long = Some (codes "path"); value_names = 1; action = Some Append }
+
+-- --main NAME
+abbrev pub main_argument : Rule
+main_argument = record (new_rule (codes "main")) { long = Some (codes "main"); value_names = 1 }
+
+-- [--path DIR].. [--main NAME] FILE.., which say what the classes of a program are
+abbrev pub with_program : App → App
+with_program a = with_rule (with_rule (with_rule a path_argument) main_argument) file_argument
+
 -- [--heap N] [--copiers N] [--schedule FILE] [--steps N] [--quantum N], which say what heap a run by one worker has and which events it makes
 abbrev pub with_turns : Rule → App → App
 with_turns steps a = with_rule (with_rule (with_rule (with_rule (with_rule a heap_argument) copiers_argument) schedule_argument) steps) quantum_argument
@@ -80,17 +92,21 @@ with_turns steps a = with_rule (with_rule (with_rule (with_rule (with_rule a hea
 abbrev pub run_options : App
 run_options = with_rule (with_rule (with_rule (with_rule (with_turns steps_argument (new_app (codes "run"))) workers_argument) stress_argument) record_argument) show_heap_argument
 
--- run [--heap N] [--copiers N] [--schedule FILE] [--steps N] [--quantum N] [--workers N] [--stress minor|full] [--record FILE] [--show-heap] FILE..
+-- run [--heap N] [--copiers N] [--schedule FILE] [--steps N] [--quantum N] [--workers N] [--stress minor|full] [--record FILE] [--show-heap] [--path DIR].. [--main NAME] FILE..
 abbrev pub run_command : App
-run_command = with_rule run_options file_argument
+run_command = with_program run_options
 
 -- RECORD, which has to be there
 abbrev pub recorded_argument : Rule
 recorded_argument = record (new_rule (codes "recorded")) { value_names = 1; required = true }
 
--- replay [--heap N] [--copiers N] [--show-heap] RECORD FILE..
+-- the options of replay
+abbrev pub replay_options : App
+replay_options = with_rule (with_rule (with_rule (new_app (codes "replay")) heap_argument) copiers_argument) show_heap_argument
+
+-- replay [--heap N] [--copiers N] [--show-heap] [--path DIR].. [--main NAME] RECORD FILE..
 abbrev pub replay_command : App
-replay_command = with_rule (with_rule (with_rule (with_rule (with_rule (new_app (codes "replay")) heap_argument) copiers_argument) show_heap_argument) recorded_argument) file_argument
+replay_command = with_rule (with_rule (with_rule (with_rule replay_options path_argument) main_argument) recorded_argument) file_argument
 
 -- --switches N: 2 where it is left out
 abbrev pub switches_argument : Rule
@@ -140,17 +156,21 @@ outcome_argument = record (new_rule (codes "outcome")) {
 abbrev pub bounds_options : App
 bounds_options = with_rule (with_rule (with_rule (with_rule (new_app (codes "explore")) switches_argument) schedule_steps_argument) runs_argument) slice_argument
 
--- explore [--switches N] [--steps N] [--runs N] [--slice N] [--outcome N] [--heap N] FILE..
+-- explore [--switches N] [--steps N] [--runs N] [--slice N] [--outcome N] [--heap N] [--path DIR].. [--main NAME] FILE..
 abbrev pub explore_command : App
-explore_command = with_rule (with_rule (with_rule bounds_options outcome_argument) heap_argument) file_argument
+explore_command = with_program (with_rule (with_rule bounds_options outcome_argument) heap_argument)
 
--- check FILE..
+-- --list
+abbrev pub list_argument : Rule
+list_argument = record (new_rule (codes "list")) { long = Some (codes "list"); action = Some SetTrue }
+
+-- check [--list] [--path DIR].. [--main NAME] FILE..
 abbrev pub check_command : App
-check_command = with_rule (new_app (codes "check")) file_argument
+check_command = with_program (with_rule (new_app (codes "check")) list_argument)
 
--- why [--heap N] [--copiers N] [--schedule FILE] [--steps N] [--quantum N] FILE..
+-- why [--heap N] [--copiers N] [--schedule FILE] [--steps N] [--quantum N] [--path DIR].. [--main NAME] FILE..
 abbrev pub why_command : App
-why_command = with_rule (with_turns steps_argument (new_app (codes "why"))) file_argument
+why_command = with_program (with_turns steps_argument (new_app (codes "why")))
 
 -- --thread T: a thread's number, which may be left out
 abbrev pub thread_argument : Rule
@@ -178,9 +198,9 @@ most_argument = record (new_rule (codes "most")) {
   parser = Some (vp.Signed (pos 1) (pos 10000000));
 }
 
--- trace [--thread T] [--from N] [--most N] [--heap N] [--copiers N] [--schedule FILE] [--steps N] [--quantum N] FILE..
+-- trace [--thread T] [--from N] [--most N] [--heap N] [--copiers N] [--schedule FILE] [--steps N] [--quantum N] [--path DIR].. [--main NAME] FILE..
 abbrev pub trace_command : App
-trace_command = with_rule (with_turns steps_argument (with_rule (with_rule (with_rule (new_app (codes "trace")) thread_argument) from_argument) most_argument)) file_argument
+trace_command = with_program (with_turns steps_argument (with_rule (with_rule (with_rule (new_app (codes "trace")) thread_argument) from_argument) most_argument))
 
 -- --steps N of a film: a number of events, 2,000 where it is left out
 abbrev pub film_steps_argument : Rule
@@ -195,9 +215,9 @@ film_steps_argument = record (new_rule (codes "steps")) {
 abbrev pub source_argument : Rule
 source_argument = record (new_rule (codes "source")) { long = Some (codes "source"); value_names = 1 }
 
--- film [--from N] [--heap N] [--copiers N] [--schedule FILE] [--steps N] [--quantum N] [--source DIR] FILE..
+-- film [--from N] [--heap N] [--copiers N] [--schedule FILE] [--steps N] [--quantum N] [--source DIR] [--path DIR].. [--main NAME] FILE..
 abbrev pub film_command : App
-film_command = with_rule (with_rule (with_turns film_steps_argument (with_rule (new_app (codes "film")) from_argument)) source_argument) file_argument
+film_command = with_program (with_rule (with_turns film_steps_argument (with_rule (new_app (codes "film")) from_argument)) source_argument)
 
 -- IN, which has to be there
 abbrev pub input_argument : Rule
@@ -223,9 +243,9 @@ class_argument = record (new_rule (codes "class")) { value_names = 1; required =
 abbrev pub disassemble_command : App
 disassemble_command = with_rule (with_rule (new_app (codes "dis")) bare_argument) class_argument
 
--- debug [--heap N] [--copiers N] FILE..
+-- debug [--heap N] [--copiers N] [--path DIR].. [--main NAME] FILE..
 abbrev pub debug_command : App
-debug_command = with_rule (with_rule (with_rule (new_app (codes "debug")) heap_argument) copiers_argument) file_argument
+debug_command = with_program (with_rule (with_rule (new_app (codes "debug")) heap_argument) copiers_argument)
 
 -- N, a number that may be left out
 abbrev pub number_argument : Rule

@@ -13,6 +13,7 @@ use Rattle.jm_options.specs.declared.command.Subcommand.{Subcommand}
 abbrev pub rule_formed : Text → Form → Rule
 rule_formed name form.Flag = record (new_rule name) { long = Some name; action = Some SetTrue }
 rule_formed name form.Text = record (new_rule name) { long = Some name; value_names = 1 }
+rule_formed name form.Texts = record (new_rule name) { long = Some name; value_names = 1; action = Some Append }
 rule_formed name (form.Number least most) = record (new_rule name) { long = Some name; value_names = 1; parser = Some (vp.Signed (pos least) (pos most)) }
 rule_formed name (form.NumberOr least most default) =
     record (new_rule name) { long = Some name; value_names = 1; defaults = default.now ∷ []; parser = Some (vp.Signed (pos least) (pos most)) }

@@ -18,6 +18,8 @@ pub enum Form {
     Flag,
     /// `[--name VALUE]`
     Text,
+    /// `[--name VALUE]...`
+    Texts,
     /// `[--name VALUE]`, a number from the first to the second.
     Number(u32, u32),
     /// The same, and the text is that of the number where it is left out.
@@ -100,6 +102,27 @@ pub const SHOW_HEAP: Argument = Argument {
     value: "",
     form: Form::Flag,
     help: "Also show, on standard error, the objects that are reachable at the end",
+};
+
+pub const PATH: Argument = Argument {
+    name: "path",
+    value: "DIR",
+    form: Form::Texts,
+    help: "Directory below which the classes are looked for that the FILEs use and do not hold, as its/name.class and its/name.j; may be given several times",
+};
+
+pub const MAIN: Argument = Argument {
+    name: "main",
+    value: "NAME",
+    form: Form::Text,
+    help: "Class whose `main` is run, as its.name: one of a FILE, or one that was found",
+};
+
+pub const LIST: Argument = Argument {
+    name: "list",
+    value: "",
+    form: Form::Flag,
+    help: "Write the names of the program's files, a line each, in place of what is refused",
 };
 
 pub const FILE: Argument = Argument {
@@ -230,6 +253,10 @@ pub fn argument_of<'a>(alloc: Global, said: &Argument) -> Arg<'a>
     match said.form {
         Form::Flag => plain.long(said.name).action(ArgAction::SetTrue),
         Form::Text => plain.long(said.name).value_name(said.value),
+        Form::Texts => plain
+            .long(said.name)
+            .value_name(said.value)
+            .action(ArgAction::Append),
         Form::Number(least, most) => plain.long(said.name).value_name(said.value).value_parser(
             value_parser!(u32).range(i64::from(least)..=i64::from(most)),
         ),

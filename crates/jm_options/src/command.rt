@@ -6,9 +6,9 @@ ghost use Rattle.jm_options.specs.CommandLine.{IsSeenAs, jm, top_command};
 ghost use Rattle.jm_options.specs.Rows.{app_said};
 
 use crate::argument::{
-    Argument, BARE, CLASS, COPIERS, FILE, FILM_STEPS, FROM, HEAP, INPUT, MOST, NUMBER, OUTCOME,
-    OUTPUT, QUANTUM, RECORD, RECORDED, RUNS, SCHEDULE, SCHEDULE_STEPS, SHOW_HEAP, SLICE, SOURCE,
-    STEPS, STRESS, SWITCHES, THREAD, WORKERS, argument_of,
+    Argument, BARE, CLASS, COPIERS, FILE, FILM_STEPS, FROM, HEAP, INPUT, LIST, MAIN, MOST, NUMBER,
+    OUTCOME, OUTPUT, PATH, QUANTUM, RECORD, RECORDED, RUNS, SCHEDULE, SCHEDULE_STEPS, SHOW_HEAP,
+    SLICE, SOURCE, STEPS, STRESS, SWITCHES, THREAD, WORKERS, argument_of,
 };
 use clap::Command;
 use std::alloc::{AllocError, Global};
@@ -27,7 +27,8 @@ const RUN: Subcommand = Subcommand {
     about: "Run a program: its threads take turns, or a schedule says which events are made",
     more: "Example: jm run Main.class Other.class\n\nClass files come from `javac --release 8`. What a number means says `jm explain N`.",
     arguments: &[
-        HEAP, COPIERS, SCHEDULE, STEPS, QUANTUM, WORKERS, STRESS, RECORD, SHOW_HEAP, FILE,
+        HEAP, COPIERS, SCHEDULE, STEPS, QUANTUM, WORKERS, STRESS, RECORD, SHOW_HEAP, PATH, MAIN,
+        FILE,
     ],
 };
 
@@ -35,28 +36,38 @@ const REPLAY: Subcommand = Subcommand {
     name: "replay",
     about: "Run a program again by the events of a record, and compare how each is answered",
     more: "Example: jm replay run.record Main.class Other.class\n\nClass files come from `javac --release 8`. What a number means says `jm explain N`.",
-    arguments: &[HEAP, COPIERS, SHOW_HEAP, RECORDED, FILE],
+    arguments: &[HEAP, COPIERS, SHOW_HEAP, PATH, MAIN, RECORDED, FILE],
 };
 
 const EXPLORE: Subcommand = Subcommand {
     name: "explore",
     about: "Try every schedule of a program up to so many switches, and tell each outcome",
     more: "Example: jm explore --switches 2 Main.class Other.class\n\nClass files come from `javac --release 8`. What a number means says `jm explain N`.",
-    arguments: &[SWITCHES, SCHEDULE_STEPS, RUNS, SLICE, OUTCOME, HEAP, FILE],
+    arguments: &[
+        SWITCHES,
+        SCHEDULE_STEPS,
+        RUNS,
+        SLICE,
+        OUTCOME,
+        HEAP,
+        PATH,
+        MAIN,
+        FILE,
+    ],
 };
 
 const CHECK: Subcommand = Subcommand {
     name: "check",
     about: "Say all that is refused and missing in a program's files, without running it",
     more: "Example: jm check Main.class Other.class\n\nClass files come from `javac --release 8`. What a number means says `jm explain N`.",
-    arguments: &[FILE],
+    arguments: &[LIST, PATH, MAIN, FILE],
 };
 
 const WHY: Subcommand = Subcommand {
     name: "why",
     about: "Run a program again without its output, and say how the run ended, and where",
     more: "Example: jm why Main.class Other.class\n\nClass files come from `javac --release 8`. What a number means says `jm explain N`.",
-    arguments: &[HEAP, COPIERS, SCHEDULE, STEPS, QUANTUM, FILE],
+    arguments: &[HEAP, COPIERS, SCHEDULE, STEPS, QUANTUM, PATH, MAIN, FILE],
 };
 
 const TRACE: Subcommand = Subcommand {
@@ -64,7 +75,7 @@ const TRACE: Subcommand = Subcommand {
     about: "Run a program again without its output, and show each event in a line",
     more: "Example: jm trace --thread 1 --most 20 Main.class Other.class\n\nClass files come from `javac --release 8`. What a number means says `jm explain N`.",
     arguments: &[
-        THREAD, FROM, MOST, HEAP, COPIERS, SCHEDULE, STEPS, QUANTUM, FILE,
+        THREAD, FROM, MOST, HEAP, COPIERS, SCHEDULE, STEPS, QUANTUM, PATH, MAIN, FILE,
     ],
 };
 
@@ -73,7 +84,7 @@ const FILM: Subcommand = Subcommand {
     about: "Write the events of a run as a page to look at in a browser",
     more: "Example: jm film Main.class Other.class > page.html\n\nClass files come from `javac --release 8`. What a number means says `jm explain N`.",
     arguments: &[
-        FROM, HEAP, COPIERS, SCHEDULE, FILM_STEPS, QUANTUM, SOURCE, FILE,
+        FROM, HEAP, COPIERS, SCHEDULE, FILM_STEPS, QUANTUM, SOURCE, PATH, MAIN, FILE,
     ],
 };
 
@@ -95,7 +106,7 @@ const DEBUG: Subcommand = Subcommand {
     name: "debug",
     about: "Show a program at any event: commands are read from standard input, a line each",
     more: "Example: jm debug Main.class Other.class\n\nClass files come from `javac --release 8`. What a number means says `jm explain N`.",
-    arguments: &[HEAP, COPIERS, FILE],
+    arguments: &[HEAP, COPIERS, PATH, MAIN, FILE],
 };
 
 const EXPLAIN: Subcommand = Subcommand {

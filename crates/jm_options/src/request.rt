@@ -79,6 +79,18 @@ pub enum Stress {
     Full,
 }
 
+/// The classes of a program.
+#[derive(Drop)]
+pub struct ProgramOptions {
+    /// The folders below which classes are looked for that none of the files holds, one after the other.
+    pub folders: Vec<String>,
+    /// The name of the main class, if it need not be that of the first file.
+    pub main: Option<String>,
+    /// The files of the classes, the main class's first: a class file, or the text of a class if its
+    /// name ends in `.j`.
+    pub files: Vec<String>,
+}
+
 /// What `jm run` is given.
 #[derive(Drop)]
 pub struct RunOptions {
@@ -102,9 +114,8 @@ pub struct RunOptions {
     pub record_file: Option<String>,
     /// Whether the objects that are reachable at the end are shown.
     pub show_heap: bool,
-    /// The files of the classes, the main class's first: a class file, or the text of a class if its
-    /// name ends in `.j`.
-    pub files: Vec<String>,
+    /// The classes of the program.
+    pub program: ProgramOptions,
     ghost least_heap: { 16 ≤ heap },
     ghost most_heap: { heap ≤ 16777216 },
     ghost some_copiers: { 1 ≤ copiers },
@@ -128,9 +139,8 @@ pub struct ReplayOptions {
     pub show_heap: bool,
     /// The file of the record.
     pub record_file: String,
-    /// The files of the classes, the main class's first: a class file, or the text of a class if its
-    /// name ends in `.j`.
-    pub files: Vec<String>,
+    /// The classes of the program.
+    pub program: ProgramOptions,
     ghost least_heap: { 16 ≤ heap },
     ghost most_heap: { heap ≤ 16777216 },
     ghost some_copiers: { 1 ≤ copiers },
@@ -154,9 +164,8 @@ pub struct ExploreOptions {
     pub outcome: Option<u32>,
     /// The limit of the heap, in cells, from [`MIN_HEAP`] to [`MAX_HEAP`].
     pub heap: u32,
-    /// The files of the classes, the main class's first: a class file, or the text of a class if its
-    /// name ends in `.j`.
-    pub files: Vec<String>,
+    /// The classes of the program.
+    pub program: ProgramOptions,
     ghost few_switches: { switches ≤ 16 },
     ghost some_steps: { 1 ≤ steps },
     ghost few_steps: { steps ≤ 1000000 },
@@ -173,9 +182,10 @@ pub struct ExploreOptions {
 /// What `jm check` is given.
 #[derive(Drop)]
 pub struct CheckOptions {
-    /// The files of the classes, the main class's first: a class file, or the text of a class if its
-    /// name ends in `.j`.
-    pub files: Vec<String>,
+    /// Whether the names of the program's files are asked for, in place of what is refused.
+    pub list: bool,
+    /// The classes of the program.
+    pub program: ProgramOptions,
 }
 
 /// How a program is run by one worker.
@@ -191,9 +201,8 @@ pub struct SerialRun {
     pub steps: u32,
     /// The most events of a thread's turn without a schedule, from 1 to [`MAX_QUANTUM`].
     pub quantum: u32,
-    /// The files of the classes, the main class's first: a class file, or the text of a class if its
-    /// name ends in `.j`.
-    pub files: Vec<String>,
+    /// The classes of the program.
+    pub program: ProgramOptions,
     ghost least_heap: { 16 ≤ heap },
     ghost most_heap: { heap ≤ 16777216 },
     ghost some_copiers: { 1 ≤ copiers },
@@ -264,9 +273,8 @@ pub struct DebugOptions {
     pub heap: u32,
     /// How many copiers collect the heap, from 1 to [`MAX_COPIERS`].
     pub copiers: u32,
-    /// The files of the classes, the main class's first: a class file, or the text of a class if its
-    /// name ends in `.j`.
-    pub files: Vec<String>,
+    /// The classes of the program.
+    pub program: ProgramOptions,
     ghost least_heap: { 16 ≤ heap },
     ghost most_heap: { heap ≤ 16777216 },
     ghost some_copiers: { 1 ≤ copiers },

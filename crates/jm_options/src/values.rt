@@ -1,12 +1,12 @@
 // The values that the matches of a subcommand hold.
 
-ghost use Rattle.std.specs.Prelude.{◌≡◌, ℕ, IfOk, MatchOption, Some, codes, map, option_map, string_bytes};
+ghost use Rattle.std.specs.Prelude.{◌≡◌, ℕ, [], IfOk, MatchOption, Some, codes, map, option_map, string_bytes, unwrap_or};
 ghost use Rattle.clap.specs.Words.{all_of, first_of, found_of, rows_of};
-ghost use Rattle.jm_options.specs.Asked.{Finds, HoldsNumber, HoldsStress, MayHoldNumber, is_set, stress_word};
+ghost use Rattle.jm_options.specs.Asked.{Finds, HoldsNumber, HoldsProgram, HoldsStress, MayHoldNumber, is_set, stress_word};
 ghost use Rattle.jm_options.specs.declared.request.Stress.{Stress};
 
 use crate::fault::UsageFault;
-use crate::request::{MAX_COPIERS, MAX_HEAP, MIN_HEAP, Stress};
+use crate::request::{MAX_COPIERS, MAX_HEAP, MIN_HEAP, ProgramOptions, Stress};
 use crate::usage::{nothing_asked, stress_of_several, unknown_stress};
 use clap::ArgMatches;
 use std::alloc::{AllocError, Global};
@@ -105,13 +105,38 @@ fn strings_of(alloc: Global, texts: &[&str]) -> Result<Vec<String>, AllocError>
 }
 
 // The files, of which one has to be there.
-pub fn files_asked(alloc: Global, matches: &ArgMatches<'_>) -> Result<Vec<String>, UsageFault>
+fn files_asked(alloc: Global, matches: &ArgMatches<'_>) -> Result<Vec<String>, UsageFault>
     ensures { Finds result (λ files. all_of (codes "file") (rows_of (found_of matches.now)) ≡ Some (map (λ s. string_bytes s) files.items)) }
 {
     let Some(files) = matches.get_strs("file") else {
         return Err(nothing_asked(alloc));
     };
     Ok(strings_of(alloc, files)?)
+}
+
+// The texts under a name, one for each time that it is given.
+fn texts_given(
+    alloc: Global,
+    matches: &ArgMatches<'_>,
+    name: &str,
+) -> Result<Vec<String>, UsageFault>
+    ensures { Finds result (λ texts. unwrap_or (all_of name.now (rows_of (found_of matches.now))) [] ≡ map (λ s. string_bytes s) texts.items) }
+{
+    let Some(texts) = matches.get_strs(name) else {
+        return Ok(Vec::new(alloc));
+    };
+    Ok(strings_of(alloc, texts)?)
+}
+
+// The classes of a program, of whose files one has to be there.
+pub fn program_asked(alloc: Global, matches: &ArgMatches<'_>) -> Result<ProgramOptions, UsageFault>
+    ensures { Finds result (HoldsProgram (rows_of (found_of matches.now))) }
+{
+    Ok(ProgramOptions {
+        folders: texts_given(alloc, matches, "path")?,
+        main: text_given(alloc, matches, "main")?,
+        files: files_asked(alloc, matches)?,
+    })
 }
 
 // The limit of the heap.

@@ -15,7 +15,7 @@ use crate::request::{
 };
 use crate::usage::{nothing_asked, one_file, refusal, unknown_number};
 use crate::values::{
-    copiers_asked, files_asked, heap_asked, is_set, number_asked, number_given, number_within,
+    copiers_asked, heap_asked, is_set, number_asked, number_given, number_within, program_asked,
     stress_given, text_asked, text_given,
 };
 use clap::ArgMatches;
@@ -33,7 +33,7 @@ fn serial_run(alloc: Global, matches: &ArgMatches<'_>, most: u32) -> Result<Seri
         schedule: text_given(alloc, matches, "schedule")?,
         steps: number_asked(alloc, matches, "steps", 1, most)?,
         quantum: number_asked(alloc, matches, "quantum", 1, MAX_QUANTUM)?,
-        files: files_asked(alloc, matches)?,
+        program: program_asked(alloc, matches)?,
     })
 }
 
@@ -52,7 +52,7 @@ fn run_options(alloc: Global, matches: &ArgMatches<'_>) -> Result<RunOptions, Us
         stress: stress_given(alloc, matches, workers)?,
         record_file: text_given(alloc, matches, "record")?,
         show_heap: is_set(matches, "show-heap"),
-        files: serial.files,
+        program: serial.program,
     })
 }
 
@@ -64,7 +64,7 @@ fn replay_options(alloc: Global, matches: &ArgMatches<'_>) -> Result<ReplayOptio
         copiers: copiers_asked(alloc, matches)?,
         show_heap: is_set(matches, "show-heap"),
         record_file: text_asked(alloc, matches, "recorded")?,
-        files: files_asked(alloc, matches)?,
+        program: program_asked(alloc, matches)?,
     })
 }
 
@@ -78,7 +78,7 @@ fn explore_options(alloc: Global, matches: &ArgMatches<'_>) -> Result<ExploreOpt
         slice: number_asked(alloc, matches, "slice", 1, MAX_SLICE)?,
         outcome: number_given(alloc, matches, "outcome", 1, MAX_RUNS)?,
         heap: heap_asked(alloc, matches)?,
-        files: files_asked(alloc, matches)?,
+        program: program_asked(alloc, matches)?,
     })
 }
 
@@ -86,7 +86,8 @@ fn check_options(alloc: Global, matches: &ArgMatches<'_>) -> Result<CheckOptions
     ensures { Finds result (HoldsCheck (rows_of (found_of matches.now))) }
 {
     Ok(CheckOptions {
-        files: files_asked(alloc, matches)?,
+        list: is_set(matches, "list"),
+        program: program_asked(alloc, matches)?,
     })
 }
 
@@ -147,7 +148,7 @@ fn debug_options(alloc: Global, matches: &ArgMatches<'_>) -> Result<DebugOptions
     Ok(DebugOptions {
         heap: heap_asked(alloc, matches)?,
         copiers: copiers_asked(alloc, matches)?,
-        files: files_asked(alloc, matches)?,
+        program: program_asked(alloc, matches)?,
     })
 }
 

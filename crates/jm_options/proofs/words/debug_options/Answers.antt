@@ -11,6 +11,6 @@ pub returns-in_err-copiers_asked : goal.returns-in_err-copiers_asked
 returns-in_err-copiers_asked c =
     lacks_part _ _ c.from_residual-in_err-copiers_asked.result _ c.from_residual-in_err-copiers_asked.ensures.1 c.in_err-copiers_asked.ensures (λ (o : DebugOptions). o.copiers) (λ o holds. holds.copiers)
 
-pub returns-in_err-files_asked : goal.returns-in_err-files_asked
-returns-in_err-files_asked c =
-    lacks_part _ _ c.from_residual-in_err-files_asked.result _ c.from_residual-in_err-files_asked.ensures.1 c.in_err-files_asked.ensures (λ (o : DebugOptions). o.files) (λ o holds. holds.files)
+pub returns-in_err-program_asked : goal.returns-in_err-program_asked
+returns-in_err-program_asked c =
+    lacks_part _ _ c.from_residual-in_err-program_asked.result _ c.from_residual-in_err-program_asked.ensures.1 c.in_err-program_asked.ensures (λ (o : DebugOptions). o.program) (λ o holds. holds.program)

@@ -15,6 +15,6 @@ pub returns-in_err-text_asked : goal.returns-in_err-text_asked
 returns-in_err-text_asked c =
     lacks_part _ _ c.from_residual-in_err-text_asked.result _ c.from_residual-in_err-text_asked.ensures.1 c.in_err-text_asked.ensures (λ (o : ReplayOptions). o.record_file) (λ o holds. holds.record_file)
 
-pub returns-in_err-files_asked : goal.returns-in_err-files_asked
-returns-in_err-files_asked c =
-    lacks_part _ _ c.from_residual-in_err-files_asked.result _ c.from_residual-in_err-files_asked.ensures.1 c.in_err-files_asked.ensures (λ (o : ReplayOptions). o.files) (λ o holds. holds.files)
+pub returns-in_err-program_asked : goal.returns-in_err-program_asked
+returns-in_err-program_asked c =
+    lacks_part _ _ c.from_residual-in_err-program_asked.result _ c.from_residual-in_err-program_asked.ensures.1 c.in_err-program_asked.ensures (λ (o : ReplayOptions). o.program) (λ o holds. holds.program)

@@ -23,6 +23,6 @@ pub returns-in_err-number_asked-2 : goal.returns-in_err-number_asked-2
 returns-in_err-number_asked-2 c =
     lacks_part _ _ c.from_residual-in_err-number_asked-2.result _ c.from_residual-in_err-number_asked-2.ensures.1 c.in_err-number_asked-2.ensures (λ (o : SerialRun). o.quantum) (λ o holds. holds.quantum)
 
-pub returns-in_err-files_asked : goal.returns-in_err-files_asked
-returns-in_err-files_asked c =
-    lacks_part _ _ c.from_residual-in_err-files_asked.result _ c.from_residual-in_err-files_asked.ensures.1 c.in_err-files_asked.ensures (λ (o : SerialRun). o.files) (λ o holds. holds.files)
+pub returns-in_err-program_asked : goal.returns-in_err-program_asked
+returns-in_err-program_asked c =
+    lacks_part _ _ c.from_residual-in_err-program_asked.result _ c.from_residual-in_err-program_asked.ensures.1 c.in_err-program_asked.ensures (λ (o : SerialRun). o.program) (λ o holds. holds.program)

@@ -1,5 +1,7 @@
 -- What the matches of a trace hold, and what they lack.
-use Rattle.jm_options.proofs.Finding.{lacks_part}
+use Rattle.std.proofs.Common.{codes}
+use Rattle.clap.specs.Words.{found_of, rows_of}
+use Rattle.jm_options.proofs.Finding.{given_least, given_most, lacks_part}
 use Rattle.jm_options.specs.declared.request.TraceOptions.{TraceOptions}
 use Rattle.jm_options.proofs.words.trace_options.Goals as goal
 
@@ -18,3 +20,13 @@ returns-in_err-number_asked c =
 pub returns-in_err-number_asked-2 : goal.returns-in_err-number_asked-2
 returns-in_err-number_asked-2 c =
     lacks_part _ _ c.from_residual-in_err-number_asked-2.result _ c.from_residual-in_err-number_asked-2.ensures.1 c.in_err-number_asked-2.ensures (λ (o : TraceOptions). o.most) (λ o holds. holds.most)
+
+pub invariant_of-result : goal.invariant_of-result
+invariant_of-result c = record {
+  some_first = c.in_ok-number_asked.ensures.at_least;
+  few_first = c.in_ok-number_asked.ensures.at_most;
+  some_most = c.in_ok-number_asked-2.ensures.at_least;
+  few_most = c.in_ok-number_asked-2.ensures.at_most;
+  some_thread = given_least (codes "thread") 1 10000000 (rows_of (found_of c.args.matches.now)) c.in_ok-number_given.field-0 c.in_ok-number_given.ensures;
+  few_threads = given_most (codes "thread") 1 10000000 (rows_of (found_of c.args.matches.now)) c.in_ok-number_given.field-0 c.in_ok-number_given.ensures;
+}

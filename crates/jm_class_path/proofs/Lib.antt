@@ -1,0 +1,6 @@
+pub mod NamesBehind
+pub mod Known
+pub mod Steps
+pub mod Leading
+pub mod Finding
+pub mod MainClass
