@@ -24,3 +24,4 @@ mod Making
 mod ToldVerdicts
 mod TextsTold
 pub mod Calls
+mod Advices

@@ -1,0 +1,25 @@
+-- A line of an assembler text, as it is quoted.
+use Rattle.std.specs.Prelude.{ℕ, zero, suc, ◌+◌, ◌-◌, List, [], length, drop, not, ◌==◌, if◌then◌else◌}
+use Rattle.std.specs.List.{take_while}
+use Rattle.std.specs.Str.{is_utf8, trim}
+use Rattle.jm_execute.specs.FileNames.{file_name_text}
+
+-- the bytes in front of the first of this value
+abbrev pub up_to : ℕ → List ℕ → List ℕ
+up_to value bytes = take_while (λ b. not (b == value)) bytes
+
+-- the bytes behind the first line
+abbrev pub behind_line : List ℕ → List ℕ
+behind_line bytes = drop (length (up_to 10 bytes) + 1) bytes
+
+-- the bytes behind so many lines: a line feed ends a line
+abbrev pub behind_lines : ℕ → List ℕ → List ℕ
+behind_lines zero bytes = bytes
+behind_lines (suc n) bytes = behind_line (behind_lines n bytes)
+
+-- the line of this number, counted from 1, without the blanks at its ends, and each control character as \uXXXX; nothing of a line that is not UTF-8
+abbrev pub line_shown : List ℕ → List ℕ
+line_shown line = if is_utf8 line then file_name_text (trim line) else []
+
+abbrev pub quote : ℕ → List ℕ → List ℕ
+quote number bytes = line_shown (up_to 10 (behind_lines (number - 1) bytes))
