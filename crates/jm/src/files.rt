@@ -1,14 +1,15 @@
 // Files from their names.
 
-ghost use Rattle.std.specs.Prelude.{◌≡◌, IfOk, OnOk, MatchResult, None, [], map, option_map, string_bytes};
-ghost use Rattle.jm.specs.Program.{AreRead};
-ghost use Rattle.jm_command.specs.Named.{name_of};
+ghost use Rattle.std.specs.Prelude.{◌≡◌, IfOk, MatchResult, None, Some, [], option_map};
+ghost use Rattle.jm.specs.Program.{AreNoProgram, AreNotRead, AreProgram, AreProgramIfAsked, AreRead};
+ghost use Rattle.jm_command.specs.Named.{name_of, program_asked};
 
-use crate::program::{ProgramFault, program_files};
+use crate::disk::Disk;
 use crate::sources::sources_of;
+use jm_class_path::{ProgramFault, program_files};
 use jm_command::{FilesRead, file_named, folder_named, program_asked};
 use jm_execute::{Contents, InputFile};
-use jm_options::Options;
+use jm_options::{Options, ProgramOptions};
 use jm_page::Source;
 use std::alloc::AllocError;
 use std::fs;
@@ -27,17 +28,6 @@ pub fn input_file(rt: &HostRuntime, name: &str) -> Result<InputFile, AllocError>
         },
     };
     Ok(InputFile { name, contents })
-}
-
-/// The files of these names, in order.
-pub fn input_files(rt: &HostRuntime, names: &[String]) -> Result<Vec<InputFile>, AllocError>
-    ensures { IfOk result (λ files. map (λ file. name_of file) files.items ≡ map (λ name. string_bytes name) names.now) }
-{
-    let mut files = Vec::with_capacity(rt.alloc(), names.len())?;
-    for name in names {
-        files.push(input_file(rt, name)?)?;
-    }
-    Ok(files)
 }
 
 // The file of a name, where one is given.
@@ -64,15 +54,40 @@ fn sources_if_named(
     }
 }
 
+// The files of a program that is asked for, its main class's first.
+fn program_read(rt: &HostRuntime, asked: &ProgramOptions) -> Result<Vec<InputFile>, ProgramFault>
+    ensures { MatchResult result (λ files. AreProgram asked.now (Some files.items)) (λ fault. AreNoProgram asked.now fault) }
+{
+    let disk = Disk { rt };
+    program_files(
+        rt.alloc(),
+        &disk,
+        &asked.files,
+        &asked.folders,
+        asked.main.as_deref(),
+    )
+}
+
+// The files of a program, where one is asked for.
+fn program_if_asked(
+    rt: &HostRuntime,
+    asked: Option<&ProgramOptions>,
+) -> Result<Vec<InputFile>, ProgramFault>
+    ensures { let program = option_map (λ program. program.now) asked.entry in
+        MatchResult result (λ files. AreProgramIfAsked program files.items) (λ fault. AreNotRead program fault) }
+{
+    match asked {
+        Some(asked) => program_read(rt, asked),
+        None => Ok(Vec::new(rt.alloc())),
+    }
+}
+
 /// The files that options name and those that are found for them, with what reading them came to.
 pub fn files_read(rt: &HostRuntime, asked: &Options) -> Result<FilesRead, ProgramFault>
-    ensures { IfOk result (AreRead asked.now) }
+    ensures { MatchResult result (AreRead asked.now) (AreNotRead (program_asked asked.now)) }
 {
     let named = file_if_named(rt, file_named(asked))?;
-    let program = match program_asked(asked) {
-        Some(asked) => program_files(rt, asked)?,
-        None => Vec::new(rt.alloc()),
-    };
+    let program = program_if_asked(rt, program_asked(asked))?;
     let sources = sources_if_named(rt, folder_named(asked), &program)?;
     Ok(FilesRead {
         named,

@@ -10,27 +10,27 @@
 
 ghost use Rattle.jm_command.specs.Named.{IsNamed};
 
+mod disk;
 mod files;
 mod listing;
 mod no_main;
 mod output;
-mod program;
-mod search;
 mod sources;
 mod word;
 mod written;
 
 use files::files_read;
+use jm_class_path::ProgramFault;
 use jm_command::{Command, Execution, FilesRead, command_of};
 use jm_execute::{
     Status, Watched, advise, check, execute, explain, film, tell_unwritten, tell_version, trace,
     why, write_out_of_memory,
 };
 use jm_options::{Options, UsageFault, options, read_and_written};
+use jm_program::Name;
 use listing::list;
 use no_main::tell_no_main;
 use output::Output;
-use program::ProgramFault;
 use std::fs;
 use std::process::ExitCode;
 use std::sync::Wait;
@@ -131,10 +131,10 @@ fn with_files(
     done(rt, wait, &command_of(asked, files))
 }
 
-// Says that the main class is not there.
-fn without_main(rt: &HostRuntime, asked: &Options) -> Status {
+// Says that the main class of a name is not there.
+fn without_main(rt: &HostRuntime, name: Name) -> Status {
     let mut err = Watched::new(rt.stderr());
-    tell_no_main(rt.alloc(), asked, &mut err)
+    tell_no_main(rt.alloc(), name, &mut err)
 }
 
 // Reads the command line and the files that it names, and does what is asked for. A file that is read is not written.
@@ -159,7 +159,7 @@ fn status(rt: &HostRuntime, wait: &(impl Threads + Wait + Sync)) -> Status {
     }
     match files_read(rt, &asked) {
         Ok(files) => with_files(rt, wait, asked, files),
-        Err(ProgramFault::NoMain) => without_main(rt, &asked),
+        Err(ProgramFault::NoMain(name)) => without_main(rt, name),
         Err(ProgramFault::OutOfMemory) => out_of_memory(rt),
     }
 }

@@ -1,33 +1,32 @@
-// Classes that are found by a finder.
+// The files that are found for the classes that a program uses.
 
-ghost use Rattle.std.specs.Prelude.{◌≡◌, ◌++◌, IfOk, IfSome, IsSome, OnOk, Some, option_map};
+ghost use Rattle.std.specs.Prelude.{◌≡◌, ◌++◌, IfOk, IfSome, IsSome, OnOk, Some, map, option_map, string_bytes};
+ghost use Rattle.jm_class_path.specs.Files.{IsFoundAs, classes_held};
 ghost use Rattle.jm_class_path.specs.Lookups.{AreFound, class_of_found, if_found};
+ghost use Rattle.jm_class_path.specs.Programs.{AreWithFound};
 ghost use Rattle.jm_class_path.specs.Search.{looked_for, next_name};
 
 use crate::class_path::ClassPath;
-use jm_program::{Class, Name};
+use crate::folders::{Found, found_for};
+use crate::reader::FileReader;
+use jm_program::Class;
 use std::alloc::{AllocError, Global};
 
-/// A file that was found for the name of a class, and the class that it holds, if it holds one.
-#[derive(Drop)]
-pub struct Found<F> {
-    pub file: F,
-    pub class: Option<Class>,
-}
-
-/// Says where classes are looked for by their names.
-pub trait ClassFinder<F> {
-    ghost use Rattle.std.specs.Prelude.{List, ℕ, Option};
-    ghost use Rattle.jm_program.specs.declared.class.ClassParts.{ClassParts};
-
-    /// What it says of a name, a file that it finds for it, and the class in the file.
-    ghost finds: { Self → List ℕ → F → Option ClassParts → Type 0 };
-
-    /// The file of the class of a name, if there is one: it holds a class of this name, or none. The
-    /// error says that a growth was refused.
-    fn find(&self, alloc: Global, name: &Name) -> Result<Option<Found<F>>, AllocError>
-        ensures finds { IfOk result (λ found. IfSome found (λ f. finds self.now name.now f.file f.class)) }
-        ensures named { IfOk result (λ found. IfSome found (λ f. IfSome f.class (λ class. class.name ≡ name.now))) };
+// The classes of the files that hold one.
+fn classes_held<F: Drop, R: FileReader<F>>(
+    alloc: Global,
+    reader: &R,
+    files: &[F],
+) -> Result<Vec<Class>, AllocError>
+    ensures { IfOk result (λ classes. classes.items ≡ classes_held R.facts files.now) }
+{
+    let mut classes = Vec::new(alloc);
+    for file in files {
+        if let Some(class) = reader.class_in(alloc, file)? {
+            classes.push(class)?;
+        }
+    }
+    Ok(classes)
 }
 
 // The search behind the name that was next, for which this was found; the file stands behind others.
@@ -52,20 +51,42 @@ fn behind<F: Drop>(
     }
 }
 
-/// The files that a finder finds for the names that classes use and those that the classes in these
-/// files use, in the order in which they were found. The error says that a growth was refused.
-pub fn find_classes<F: Drop, L: ClassFinder<F>>(
+// The files that are found below folders for the names that classes use, and for those that the classes
+// in these files use, in the order in which they were found.
+fn find_classes<F: Drop, R: FileReader<F>>(
     alloc: Global,
-    finder: &L,
+    reader: &R,
+    folders: &[String],
     given: Vec<Class>,
 ) -> Result<Vec<F>, AllocError>
-    ensures { IfOk result (λ files. AreFound (L.finds finder.now) given.items files.items) }
+    ensures { IfOk result (λ files. AreFound (IsFoundAs R.facts (map (λ folder. string_bytes folder) folders.now)) given.items files.items) }
 {
     let mut path = ClassPath::new(alloc, given)?;
     let mut files = Vec::new(alloc);
     while let Some(name) = path.next_name() {
-        let found = finder.find(alloc, name)?;
+        let found = found_for(alloc, reader, folders, name)?;
         path = behind(alloc, path, &mut files, found)?;
     }
+    Ok(files)
+}
+
+/// Some files, and behind them those that are found below folders for the classes that the files use,
+/// and for those that these use. Without a folder none is looked for. The error says that a growth was
+/// refused.
+pub fn with_found<F: Drop, R: FileReader<F>>(
+    alloc: Global,
+    reader: &R,
+    folders: &[String],
+    given: Vec<F>,
+) -> Result<Vec<F>, AllocError>
+    ensures { IfOk result (λ files. AreWithFound R.facts (map (λ folder. string_bytes folder) folders.now) given.items files.items) }
+{
+    if folders.is_empty() {
+        return Ok(given);
+    }
+    let classes = classes_held(alloc, reader, &given)?;
+    let mut found = find_classes(alloc, reader, folders, classes)?;
+    let mut files = given;
+    files.append(&mut found)?;
     Ok(files)
 }
