@@ -164,16 +164,20 @@ fn source_answer<H: Heap>(
     }
 }
 
-// The same of a run whose events are chosen so; of several workers nothing is said.
+// The same of a run whose events are chosen so, where it ended badly; of several workers nothing is said.
 fn plan_answer<H: Heap>(
     alloc: Global,
     machine: &mut Machine<H>,
     plan: &RunPlan,
     most: Option<u64>,
+    status: Status,
 ) -> Result<String, AllocError>
     ensures { (w : World) → MatchesWorld machine.old w
-        → IfOk result (λ text. string_bytes text ≡ choice_answer most w (choice_made plan.now w)) }
+        → IfOk result (λ text. string_bytes text ≡ answer_if (ends_badly status) (choice_answer most w (choice_made plan.now w))) }
 {
+    if !ends_badly(status) {
+        return Ok(String::new(alloc));
+    }
     match plan {
         RunPlan::Source(source) => source_answer(alloc, machine, source, most),
         RunPlan::Workers(_) => Ok(String::new(alloc)),
@@ -185,10 +189,14 @@ fn record_answer<H: Heap>(
     alloc: Global,
     machine: &mut Machine<H>,
     file: &InputFile,
+    status: Status,
 ) -> Result<String, AllocError>
     ensures { (w : World) → MatchesWorld machine.old w
-        → IfOk result (λ text. string_bytes text ≡ scheduled_answer w (scheduled_events file.now)) }
+        → IfOk result (λ text. string_bytes text ≡ answer_if (ends_badly status) (scheduled_answer w (scheduled_events file.now))) }
 {
+    if !ends_badly(status) {
+        return Ok(String::new(alloc));
+    }
     match schedule_in(alloc, file) {
         Ok(schedule) => {
             let mut events = Scheduled::new(&schedule);
@@ -212,11 +220,8 @@ fn run_advice<W: Threads>(
     let collector = job_collector(rt, job.copiers);
     match prepare(alloc, job, collector) {
         Ok((mut machine, plan)) => {
-            let text = if ends_badly(status) {
-                plan_answer(alloc, &mut machine, &plan, most_of(&job.events))
-            } else {
-                Ok(String::new(alloc))
-            };
+            let most = most_of(&job.events);
+            let text = plan_answer(alloc, &mut machine, &plan, most, status);
             drop(machine);
             with_number(alloc, &text?, status_says(status))
         }
@@ -235,11 +240,7 @@ fn replay_advice<W: Threads>(
     let collector = job_collector(rt, job.copiers);
     match prepare_replay(alloc, job, collector) {
         Ok((mut machine, _)) => {
-            let text = if ends_badly(status) {
-                record_answer(alloc, &mut machine, &job.record_file)
-            } else {
-                Ok(String::new(alloc))
-            };
+            let text = record_answer(alloc, &mut machine, &job.record_file, status);
             drop(machine);
             with_number(alloc, &text?, status_says(status))
         }
