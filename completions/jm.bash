@@ -41,10 +41,10 @@ _jm() {
     fi
     case ${COMP_WORDS[1]} in
         run)
-            names="--heap --copiers --schedule --steps --quantum --workers --stress --record --show-heap -h --help"
-            valued="--heap --copiers --schedule --steps --quantum --workers --stress --record"
+            names="--heap --copiers --schedule --steps --quantum --workers --stress --record --show-heap --tell --path --main -h --help"
+            valued="--heap --copiers --schedule --steps --quantum --workers --stress --record --path --main"
             case $before in
-                --heap | --copiers | --steps | --quantum | --workers)
+                --heap | --copiers | --steps | --quantum | --workers | --main)
                     :
                     return
                     ;;
@@ -56,16 +56,24 @@ _jm() {
                     _jm_words minor full
                     return
                     ;;
+                --path)
+                    _jm_directories
+                    return
+                    ;;
             esac
             rest=('_jm_files .class .j')
             more=1
             ;;
         replay)
-            names="--heap --copiers --show-heap -h --help"
-            valued="--heap --copiers"
+            names="--heap --copiers --show-heap --tell --path --main -h --help"
+            valued="--heap --copiers --path --main"
             case $before in
-                --heap | --copiers)
+                --heap | --copiers | --main)
                     :
+                    return
+                    ;;
+                --path)
+                    _jm_directories
                     return
                     ;;
             esac
@@ -73,11 +81,15 @@ _jm() {
             more=1
             ;;
         explore)
-            names="--switches --steps --runs --slice --outcome --heap -h --help"
-            valued="--switches --steps --runs --slice --outcome --heap"
+            names="--switches --steps --runs --slice --outcome --heap --tell --path --main -h --help"
+            valued="--switches --steps --runs --slice --outcome --heap --path --main"
             case $before in
-                --switches | --steps | --runs | --slice | --outcome | --heap)
+                --switches | --steps | --runs | --slice | --outcome | --heap | --main)
                     :
+                    return
+                    ;;
+                --path)
+                    _jm_directories
                     return
                     ;;
             esac
@@ -85,20 +97,35 @@ _jm() {
             more=1
             ;;
         check)
-            names="-h --help"
+            names="--list --path --main -h --help"
+            valued="--path --main"
+            case $before in
+                --path)
+                    _jm_directories
+                    return
+                    ;;
+                --main)
+                    :
+                    return
+                    ;;
+            esac
             rest=('_jm_files .class .j')
             more=1
             ;;
         why)
-            names="--heap --copiers --schedule --steps --quantum -h --help"
-            valued="--heap --copiers --schedule --steps --quantum"
+            names="--heap --copiers --schedule --steps --quantum --path --main -h --help"
+            valued="--heap --copiers --schedule --steps --quantum --path --main"
             case $before in
-                --heap | --copiers | --steps | --quantum)
+                --heap | --copiers | --steps | --quantum | --main)
                     :
                     return
                     ;;
                 --schedule)
                     _jm_files
+                    return
+                    ;;
+                --path)
+                    _jm_directories
                     return
                     ;;
             esac
@@ -106,15 +133,19 @@ _jm() {
             more=1
             ;;
         trace)
-            names="--thread --from --most --heap --copiers --schedule --steps --quantum -h --help"
-            valued="--thread --from --most --heap --copiers --schedule --steps --quantum"
+            names="--thread --from --most --heap --copiers --schedule --steps --quantum --path --main -h --help"
+            valued="--thread --from --most --heap --copiers --schedule --steps --quantum --path --main"
             case $before in
-                --thread | --from | --most | --heap | --copiers | --steps | --quantum)
+                --thread | --from | --most | --heap | --copiers | --steps | --quantum | --main)
                     :
                     return
                     ;;
                 --schedule)
                     _jm_files
+                    return
+                    ;;
+                --path)
+                    _jm_directories
                     return
                     ;;
             esac
@@ -122,10 +153,10 @@ _jm() {
             more=1
             ;;
         film)
-            names="--from --heap --copiers --schedule --steps --quantum --source -h --help"
-            valued="--from --heap --copiers --schedule --steps --quantum --source"
+            names="--from --heap --copiers --schedule --steps --quantum --source --path --main -h --help"
+            valued="--from --heap --copiers --schedule --steps --quantum --source --path --main"
             case $before in
-                --from | --heap | --copiers | --steps | --quantum)
+                --from | --heap | --copiers | --steps | --quantum | --main)
                     :
                     return
                     ;;
@@ -133,7 +164,7 @@ _jm() {
                     _jm_files
                     return
                     ;;
-                --source)
+                --source | --path)
                     _jm_directories
                     return
                     ;;
@@ -150,11 +181,15 @@ _jm() {
             rest=('_jm_files .class .j')
             ;;
         debug)
-            names="--heap --copiers -h --help"
-            valued="--heap --copiers"
+            names="--heap --copiers --tell --path --main -h --help"
+            valued="--heap --copiers --path --main"
             case $before in
-                --heap | --copiers)
+                --heap | --copiers | --main)
                     :
+                    return
+                    ;;
+                --path)
+                    _jm_directories
                     return
                     ;;
             esac

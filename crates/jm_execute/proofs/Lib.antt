@@ -25,3 +25,4 @@ mod ToldVerdicts
 mod TextsTold
 pub mod Calls
 mod Advices
+mod Quoted

@@ -1,16 +1,25 @@
 -- A line of an assembler text, as it is quoted.
-use Rattle.std.specs.Prelude.{ℕ, zero, suc, ◌+◌, ◌-◌, List, [], length, drop, not, ◌==◌, if◌then◌else◌}
-use Rattle.std.specs.List.{take_while}
+use Rattle.std.specs.Prelude.{ℕ, zero, suc, ◌+◌, ◌-◌, List, [], Option, Some, None, take, drop, position, ◌==◌, if◌then◌else◌}
 use Rattle.std.specs.Str.{is_utf8, trim}
 use Rattle.jm_execute.specs.FileNames.{file_name_text}
 
+-- the bytes up to a place, or all of them
+abbrev pub front : Option ℕ → List ℕ → List ℕ
+front None bytes = bytes
+front (Some at) bytes = take at bytes
+
+-- the bytes behind a place
+abbrev pub behind : Option ℕ → List ℕ → List ℕ
+behind None bytes = []
+behind (Some at) bytes = drop (at + 1) bytes
+
 -- the bytes in front of the first of this value
 abbrev pub up_to : ℕ → List ℕ → List ℕ
-up_to value bytes = take_while (λ b. not (b == value)) bytes
+up_to value bytes = front (position (λ byte. byte == value) bytes) bytes
 
 -- the bytes behind the first line
 abbrev pub behind_line : List ℕ → List ℕ
-behind_line bytes = drop (length (up_to 10 bytes) + 1) bytes
+behind_line bytes = behind (position (λ byte. byte == 10) bytes) bytes
 
 -- the bytes behind so many lines: a line feed ends a line
 abbrev pub behind_lines : ℕ → List ℕ → List ℕ

@@ -1,6 +1,6 @@
 // A line of an assembler text, as it is quoted.
 
-ghost use Rattle.std.specs.Prelude.{◌≡◌, Some};
+ghost use Rattle.std.specs.Prelude.{◌≡◌, ◌==◌, Some, position};
 ghost use Rattle.std.specs.Fmt.{WritesOnOk};
 ghost use Rattle.jm_execute.specs.Quotes.{behind_line, behind_lines, line_shown, quote, up_to};
 
@@ -8,23 +8,30 @@ use crate::file_name::FileName;
 use std::fmt;
 use std::fmt::Display;
 
+// Where the first byte of this value is.
+fn position_of(bytes: &[u8], value: u8) -> Option<usize>
+    ensures { result ≡ position (λ byte. byte == value) bytes.now }
+{
+    bytes.iter().position(|byte| *byte == value)
+}
+
 /// The bytes in front of the first of this value.
 pub(crate) fn up_to(bytes: &[u8], value: u8) -> &[u8]
     ensures { result.now ≡ up_to value bytes.now }
 {
-    let end = bytes.iter().take_while(|byte| **byte != value).count();
-    &bytes[..end]
+    match position_of(bytes, value) {
+        Some(end) => &bytes[..end],
+        None => bytes,
+    }
 }
 
 // The bytes behind the first line.
 fn behind_line(bytes: &[u8]) -> &[u8]
     ensures { result.now ≡ behind_line bytes.now }
 {
-    let line = up_to(bytes, b'\n').len();
-    if line < bytes.len() {
-        &bytes[line + 1..]
-    } else {
-        &[]
+    match position_of(bytes, b'\n') {
+        Some(end) => &bytes[end + 1..],
+        None => &[],
     }
 }
 
@@ -33,7 +40,7 @@ fn behind_lines(bytes: &[u8], lines: usize) -> &[u8]
     ensures { result.now ≡ behind_lines lines bytes.now }
 {
     let mut rest = bytes;
-    for _line in 0..lines {
+    for _ in 0..lines {
         rest = behind_line(rest);
     }
     rest
