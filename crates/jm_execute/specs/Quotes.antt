@@ -26,9 +26,14 @@ abbrev pub behind_lines : ℕ → List ℕ → List ℕ
 behind_lines zero bytes = bytes
 behind_lines (suc n) bytes = behind_line (behind_lines n bytes)
 
--- the line of this number, counted from 1, without the blanks at its ends, and each control character as \uXXXX; nothing of a line that is not UTF-8
-abbrev pub line_shown : List ℕ → List ℕ
-line_shown line = if is_utf8 line then file_name_text (trim line) else []
+-- nothing of a line that is not UTF-8
+abbrev pub text_in : List ℕ → List ℕ
+text_in line = if is_utf8 line then line else []
 
+-- without the blanks at its ends, and each control character as \uXXXX
+abbrev pub line_shown : List ℕ → List ℕ
+line_shown line = file_name_text (trim (text_in line))
+
+-- the line of this number, counted from 1
 abbrev pub quote : ℕ → List ℕ → List ℕ
 quote number bytes = line_shown (up_to 10 (behind_lines (number - 1) bytes))

@@ -2,7 +2,7 @@
 
 ghost use Rattle.std.specs.Prelude.{◌≡◌, ◌==◌, Some, position};
 ghost use Rattle.std.specs.Fmt.{WritesOnOk};
-ghost use Rattle.jm_execute.specs.Quotes.{behind_line, behind_lines, line_shown, quote, up_to};
+ghost use Rattle.jm_execute.specs.Quotes.{behind_line, behind_lines, line_shown, quote, text_in, up_to};
 
 use crate::file_name::FileName;
 use std::fmt;
@@ -46,13 +46,21 @@ fn behind_lines(bytes: &[u8], lines: usize) -> &[u8]
     rest
 }
 
+// A line that is UTF-8, and nothing of another.
+fn text_in(line: &[u8]) -> &str
+    ensures { result.now ≡ text_in line.now }
+{
+    match str::from_utf8(line) {
+        Ok(text) => text,
+        Err(_) => "",
+    }
+}
+
 fn write_line<W: fmt::Write>(f: &mut fmt::Formatter<W>, line: &[u8]) -> fmt::Result
     ensures { WritesOnOk W.write_str_gives f.old result (line_shown line.now) f.new }
 {
-    match str::from_utf8(line) {
-        Ok(text) => write!(f, "{}", FileName(text.trim())),
-        Err(_) => Ok(()),
-    }
+    let text = text_in(line).trim();
+    write!(f, "{}", FileName(text))
 }
 
 /// The line of this number of a text, counted from 1, without the blanks at its ends.

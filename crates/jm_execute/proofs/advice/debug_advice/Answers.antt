@@ -9,4 +9,4 @@ returns-in-Ok g c =
     advised_by c.with_number.result c.args.job.now.program.items no_answer _ _ c.args.status c.in-Ok.ensures.session (numbered _ _ _ _ _ c.with_number.ensures (no_answer_if c.args.status) c.status_says.ensures)
 
 pub returns-in-Err : goal.returns-in-Err
-returns-in-Err g c = rw c.deref-in-Err.ensures.value at (c.refused_advice.ensures _ no_answer c.args.status c.in-Err.ensures.session)
+returns-in-Err g c = rw c.deref.ensures.value at (c.refused_advice.ensures _ no_answer c.args.status c.in-Err.ensures.session)

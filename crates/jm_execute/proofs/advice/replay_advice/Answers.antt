@@ -12,7 +12,7 @@ returns-in-Ok g c =
     let ready = c.in-Ok.ensures.ready in
     let first = subst (λ n. MatchesWorld m (loaded_world m.linked.program n)) ready.limit_is ready.matches in
     advised_by c.with_number.result c.args.job.now.program.items (replay_answer c.args.job.now.record_file) _ _ c.args.status c.in-Ok.ensures.run
-    (numbered _ _ _ _ _ c.with_number.ensures (c.deref.ensures.value ∙ c.in_ok-text.ensures _ first) c.status_says.ensures)
+    (numbered _ _ _ _ _ c.with_number.ensures (c.deref.ensures ∙ c.in_ok-text-in-Ok.ensures _ first) c.status_says.ensures)
 
-pub returns-in-Err : goal.returns-in-Err
-returns-in-Err g c = rw c.deref-in-Err.ensures.value at (c.refused_advice.ensures _ (replay_answer c.args.job.now.record_file) c.args.status c.in-Err.ensures.run)
+pub returns : goal.returns
+returns g c = rw c.deref-in-Err.ensures.value at (c.refused_advice.ensures _ (replay_answer c.args.job.now.record_file) c.args.status c.in-Err.ensures.run)
