@@ -1,7 +1,6 @@
 -- What is said behind the lines of a job, by its verdict.
-use Rattle.std.proofs.Common.{◌≡◌, ℕ, List, [], ◌++◌, Bool, true, false, Option, Result, Ok, Err, refl, sym, ap, ap₂, subst, append_assoc, ◌∙◌}
+use Rattle.std.proofs.Common.{◌≡◌, ℕ, List, [], ◌++◌, Bool, true, false, Option, Result, refl, sym, ap, ap₂, subst, append_assoc, ◌∙◌}
 use Rattle.std.specs.Prelude.{Vec, IfOk}
-use Rattle.std.specs.String.{string_bytes}
 use Rattle.std.specs.declared.alloc.Global.{Global}
 use Rattle.jm_execute.specs.Advice.{answer_if, ends_badly, see_line, verdict_advice}
 use Rattle.jm_execute.specs.Quotes.{up_to}

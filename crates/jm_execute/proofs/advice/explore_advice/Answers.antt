@@ -1,5 +1,4 @@
 -- The number of the status, or why there is nothing to explore.
-use Rattle.std.proofs.Common.{refl}
 use Rattle.jm_execute.specs.Advice.{no_answer}
 use Rattle.jm_execute.proofs.Advices.{advised_by, no_answer_if, numbered}
 use Rattle.jm_execute.proofs.advice.explore_advice.Goals as goal

@@ -1,6 +1,5 @@
 -- What a check tells, and the number of the fault.
 use Rattle.std.proofs.Common.{◌∙◌}
-use Rattle.jm_execute.specs.Advice.{see_line, verdict_advice}
 use Rattle.jm_execute.proofs.Advices.{advised_by, numbered}
 use Rattle.jm_execute.proofs.advice.refused_advice.Goals as goal
 
