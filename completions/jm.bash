@@ -41,7 +41,7 @@ _jm() {
     fi
     case ${COMP_WORDS[1]} in
         run)
-            names="--heap --copiers --schedule --steps --quantum --workers --stress --record --show-heap --path --main -h --help"
+            names="--heap --copiers --schedule --steps --quantum --workers --stress --record --show-heap --tell --path --main -h --help"
             valued="--heap --copiers --schedule --steps --quantum --workers --stress --record --path --main"
             case $before in
                 --heap | --copiers | --steps | --quantum | --workers | --main)
@@ -65,7 +65,7 @@ _jm() {
             more=1
             ;;
         replay)
-            names="--heap --copiers --show-heap --path --main -h --help"
+            names="--heap --copiers --show-heap --tell --path --main -h --help"
             valued="--heap --copiers --path --main"
             case $before in
                 --heap | --copiers | --main)
@@ -81,7 +81,7 @@ _jm() {
             more=1
             ;;
         explore)
-            names="--switches --steps --runs --slice --outcome --heap --path --main -h --help"
+            names="--switches --steps --runs --slice --outcome --heap --tell --path --main -h --help"
             valued="--switches --steps --runs --slice --outcome --heap --path --main"
             case $before in
                 --switches | --steps | --runs | --slice | --outcome | --heap | --main)
@@ -181,7 +181,7 @@ _jm() {
             rest=('_jm_files .class .j')
             ;;
         debug)
-            names="--heap --copiers --path --main -h --help"
+            names="--heap --copiers --tell --path --main -h --help"
             valued="--heap --copiers --path --main"
             case $before in
                 --heap | --copiers | --main)

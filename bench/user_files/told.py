@@ -55,7 +55,7 @@ def is_list(jm, command, name, value):
 
 def option_of(jm, command, names, text):
     """Returns the option or the argument of an entry of the help."""
-    spelled = re.fullmatch(r"((?:-\w, )?--[\w-]+|-\w|)(?: ?[<[](\w+)[>\]](\.\.\.)?)?", names)
+    spelled = re.fullmatch(r"((?:-\w, )?--[\w-]+|-\w|)(?: ?[<[]([\w|]+)[>\]](\.\.\.)?)?", names)
     values = re.search(r"\[possible values: (.*?)\]", text) or re.search(r"being (`\w+`(?:, `\w+`)*(?: or `\w+`))", text)
     words = re.findall(r"\w+", values[1].replace(" or ", " ")) if values else []
     given = re.search(r"\[default: (\w+)\]", text)

@@ -9,8 +9,9 @@ import sys
 
 os.chdir(os.path.dirname(os.path.abspath(__file__)))
 GROUPS = ("statuses", "instructions", "pools", "class_files", "assembler_texts", "links", "runs", "sessions")
-FIELDS = ("name", "meaning", "example", "advice")
-ENTRY = re.compile(r"Entry \{\s+number: (\d+),\s+" + r"\s+".join(rf'{it}:\s+("[^"\\]*"),' for it in FIELDS))
+FIELDS = ("name", "names", "meaning", "example", "advice")
+TEXT = r'"[^"\\]*"'
+ENTRY = re.compile(r"Entry \{\s+number: (\d+),\s+" + r"\s+".join(rf"{it}:\s+(&\[[^\]]*\]|{TEXT})," for it in FIELDS))
 HEAD = """-- What is said of each number, by number.
 use Rattle.std.specs.Prelude.{List, [], ◌∷◌, ◌++◌, Option, Some, None, codes}
 use Rattle.jm_explain.specs.Items.{Item, Text, item_text, list_of}
@@ -23,9 +24,14 @@ explained None = list_of items
 """
 
 
+def value_of(text):
+    """Returns the definition of a text, or of a list of them."""
+    return "".join(f"codes {it} ∷ " for it in re.findall(TEXT, text)) + "[]" if text.startswith("&[") else f"codes {text}"
+
+
 def row_of(number, *texts):
     """Returns the line of an entry."""
-    fields = "; ".join(f"{field} = codes {text}" for field, text in zip(FIELDS, texts))
+    fields = "; ".join(f"{field} = {value_of(text)}" for field, text in zip(FIELDS, texts))
     return f"    record {{ number = {number}; {fields} }} ∷\n"
 
 

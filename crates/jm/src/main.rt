@@ -23,8 +23,8 @@ use files::files_read;
 use jm_class_path::ProgramFault;
 use jm_command::{Command, Execution, FilesRead, command_of};
 use jm_execute::{
-    Status, Watched, check, execute, explain, film, tell_unwritten, tell_version, trace, why,
-    write_out_of_memory,
+    Status, Watched, advise, check, execute, explain, film, tell_unwritten, tell_version, trace,
+    why, write_out_of_memory,
 };
 use jm_options::{Options, UsageFault, options, read_and_written};
 use jm_program::Name;
@@ -40,7 +40,7 @@ use written::{written_over, written_over_program};
 
 // Does a job, with its output where it belongs, and writes its record to its file, where one is named and there is a
 // record. A run may start threads, and wait for its machine's lock, and a session for a line.
-fn executed(
+fn done_with_record(
     rt: &HostRuntime,
     wait: &(impl Threads + Wait + Sync),
     execution: &Execution,
@@ -61,6 +61,20 @@ fn executed(
             Status::Files
         }
     }
+}
+
+// Does a job, and tells more of it where that is asked for.
+fn executed(
+    rt: &HostRuntime,
+    wait: &(impl Threads + Wait + Sync),
+    execution: &Execution,
+) -> Status {
+    let status = done_with_record(rt, wait, execution);
+    if execution.tells {
+        let mut err = Watched::new(rt.stderr());
+        advise(wait, rt.alloc(), &execution.job, status, &mut err);
+    }
+    status
 }
 
 // Says that a growth was refused.

@@ -1,5 +1,5 @@
 -- What options ask for, with the files that were read for them.
-use Rattle.std.specs.Prelude.{◌≡◌, ◌≤◌, ◌-◌, ℕ, Option, Some, None, is_some, option_map, if◌then◌else◌}
+use Rattle.std.specs.Prelude.{◌≡◌, ◌≤◌, ◌-◌, ℕ, Option, Some, None, is_some, option_map, Bool, false, if◌then◌else◌}
 use Rattle.std.specs.Global.{Vec}
 use Rattle.jm_heap.specs.declared.heap.Kind.{Kind}
 use Rattle.jm_heap.specs.declared.heap.Kind.TheVariants as kind
@@ -123,9 +123,9 @@ pub record IsFilmJob (o : FilmOptions) (files : FilesRead) (j : FilmJob) : Type 
   pub shown : j.window.steps ≡ o.run.steps
   pub sources : j.sources ≡ files.sources
 
--- the command is to execute a job without a record
-abbrev pub Executes : Command → Job → Type 0
-Executes c j = c ≡ command.Execute (record { job = j; record_file = None })
+-- the command is to execute a job without a record, and to tell more or not
+abbrev pub Executes : Command → Bool → Job → Type 0
+Executes c tells j = c ≡ command.Execute (record { job = j; record_file = None; tells = tells })
 
 -- what a check comes to: of files all that is refused, or their names
 abbrev pub check_command : CheckOptions → Vec InputFile → Command
@@ -133,15 +133,15 @@ check_command o classes = if o.list then command.List classes else command.Check
 
 -- the command is what the options ask for, with the files that were read for them
 abbrev pub AsksFor : Options → FilesRead → Command → Type 0
-AsksFor (Run o) files c = (j : RunJob) × IsRunJob o files j × (c ≡ command.Execute (record { job = job.Run j; record_file = o.record_file }))
-AsksFor (Replay o) files c = (recorded : InputFile) × (files.named ≡ Some recorded) × ((j : ReplayJob) × IsReplayJob o recorded files.program j × Executes c (job.Replay j))
-AsksFor (Explore o) files c = (j : ExploreJob) × IsExploreJob o files.program j × Executes c (job.Explore j)
+AsksFor (Run o) files c = (j : RunJob) × IsRunJob o files j × (c ≡ command.Execute (record { job = job.Run j; record_file = o.record_file; tells = o.tell }))
+AsksFor (Replay o) files c = (recorded : InputFile) × (files.named ≡ Some recorded) × ((j : ReplayJob) × IsReplayJob o recorded files.program j × Executes c o.tell (job.Replay j))
+AsksFor (Explore o) files c = (j : ExploreJob) × IsExploreJob o files.program j × Executes c o.tell (job.Explore j)
 AsksFor (Check o) files c = c ≡ check_command o files.program
 AsksFor (Why o) files c = (j : ToldJob) × IsToldJob o o.steps files.named files.program j × (c ≡ command.Why j)
 AsksFor (Trace o) files c = (j : TraceJob) × IsTraceJob o files j × (c ≡ command.Trace j)
 AsksFor (Film o) files c = (j : FilmJob) × IsFilmJob o files j × (c ≡ command.Film j)
-AsksFor (Assemble o) files c = (text : InputFile) × (files.named ≡ Some text) × ((j : AssembleJob) × IsAssembleJob o text j × Executes c (job.Assemble j))
-AsksFor (Disassemble o) files c = (file : InputFile) × (files.named ≡ Some file) × ((j : DisassembleJob) × IsDisassembleJob o file j × Executes c (job.Disassemble j))
-AsksFor (Debug o) files c = (j : DebugJob) × IsDebugJob o files.program j × Executes c (job.Debug j)
+AsksFor (Assemble o) files c = (text : InputFile) × (files.named ≡ Some text) × ((j : AssembleJob) × IsAssembleJob o text j × Executes c false (job.Assemble j))
+AsksFor (Disassemble o) files c = (file : InputFile) × (files.named ≡ Some file) × ((j : DisassembleJob) × IsDisassembleJob o file j × Executes c false (job.Disassemble j))
+AsksFor (Debug o) files c = (j : DebugJob) × IsDebugJob o files.program j × Executes c o.tell (job.Debug j)
 AsksFor (Explain o) files c = c ≡ command.Explain o.entry
 AsksFor Version files c = c ≡ command.Version

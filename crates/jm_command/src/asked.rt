@@ -15,12 +15,13 @@ use jm_job::{AssembleJob, DebugJob, DisassembleJob, InputFile, Job};
 use jm_options::{CheckOptions, Options};
 
 // To do a job without a record.
-fn without_record(job: Job) -> Command
-    ensures { Executes result job }
+fn without_record(job: Job, tells: bool) -> Command
+    ensures { Executes result tells job }
 {
     Command::Execute(Execution {
         job,
         record_file: None,
+        tells,
     })
 }
 
@@ -44,29 +45,41 @@ pub fn command_of(asked: Options, files: FilesRead) -> Command
         Options::Run(asked) => Command::Execute(Execution {
             job: Job::Run(run_job(&asked, files)),
             record_file: asked.record_file,
+            tells: asked.tell,
         }),
         Options::Replay(asked) => {
             let job = replay_job(&asked, files.named.unwrap(), files.program);
-            without_record(Job::Replay(job))
+            without_record(Job::Replay(job), asked.tell)
         }
-        Options::Explore(asked) => without_record(Job::Explore(explore_job(&asked, files.program))),
+        Options::Explore(asked) => {
+            without_record(Job::Explore(explore_job(&asked, files.program)), asked.tell)
+        }
         Options::Check(asked) => check_command(&asked, files.program),
         Options::Why(asked) => Command::Why(told_job(&asked, files)),
         Options::Trace(asked) => Command::Trace(trace_job(&asked, files)),
         Options::Film(asked) => Command::Film(film_job(&asked, files)),
-        Options::Assemble(asked) => without_record(Job::Assemble(AssembleJob {
-            text: files.named.unwrap(),
-            output: asked.output,
-        })),
-        Options::Disassemble(asked) => without_record(Job::Disassemble(DisassembleJob {
-            file: files.named.unwrap(),
-            bare: asked.bare,
-        })),
-        Options::Debug(asked) => without_record(Job::Debug(DebugJob {
-            heap: asked.heap,
-            copiers: copiers(asked.copiers),
-            program: files.program,
-        })),
+        Options::Assemble(asked) => {
+            let job = AssembleJob {
+                text: files.named.unwrap(),
+                output: asked.output,
+            };
+            without_record(Job::Assemble(job), false)
+        }
+        Options::Disassemble(asked) => {
+            let job = DisassembleJob {
+                file: files.named.unwrap(),
+                bare: asked.bare,
+            };
+            without_record(Job::Disassemble(job), false)
+        }
+        Options::Debug(asked) => {
+            let job = DebugJob {
+                heap: asked.heap,
+                copiers: copiers(asked.copiers),
+                program: files.program,
+            };
+            without_record(Job::Debug(job), asked.tell)
+        }
         Options::Explain(asked) => Command::Explain(asked.entry),
         Options::Version => Command::Version,
     }

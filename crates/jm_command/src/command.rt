@@ -8,6 +8,8 @@ pub struct Execution {
     pub job: Job,
     /// The file that the record of a run is to be written to, if one is.
     pub record_file: Option<String>,
+    /// Whether more is told of what was refused or of how the run ended.
+    pub tells: bool,
 }
 
 // Written out, so that whoever lets go of one makes a call (docs/DECISIONS.md).
@@ -16,6 +18,7 @@ impl Drop for Execution {
         let Execution {
             job: _,
             record_file: _,
+            tells: _,
         } = self;
     }
 }

@@ -24,3 +24,5 @@ mod Making
 mod ToldVerdicts
 mod TextsTold
 pub mod Calls
+mod Advices
+mod Quoted

@@ -8,6 +8,7 @@ pub mod Making
 pub mod Sources
 pub mod Beginnings
 pub mod FileNames
+pub mod Quotes
 pub mod ProgramFiles
 pub mod Reasons
 pub mod Verdicts
@@ -23,3 +24,4 @@ pub mod ViewsAgain
 pub mod Shown
 pub mod Checks
 pub mod JobCollectors
+pub mod Advice

@@ -1,20 +1,23 @@
 // What `jm check` does.
 
-ghost use Rattle.std.specs.Prelude.{◌≡◌, ◌++◌, Some, false, IfOk, OnOk, string_bytes};
-ghost use Rattle.jm_execute.specs.Checks.{Checks, ChecksIfThereIsMemory, all_told, class_held, classes_held, main_class_of, refused_line, refused_lines};
+ghost use Rattle.std.specs.Prelude.{◌≡◌, ◌++◌, Some, codes, false, IfOk, OnOk, string_bytes};
+ghost use Rattle.jm_execute.specs.Checks.{Checks, ChecksIfThereIsMemory, all_told, class_held, classes_held, main_class_of, cause_line, fault_at, fault_in, refused_line, refused_lines, text_fault, told_of};
 ghost use Rattle.jm_execute.specs.Reasons.{reason_says};
 ghost use Rattle.jm_execute.specs.Refusals.{reason_of};
-ghost use Rattle.jm_execute.specs.Verdicts.{class_of};
+ghost use Rattle.jm_execute.specs.Verdicts.{because, class_of};
 ghost use Rattle.jm_execute.specs.Written.{words};
 
+use crate::file_name::FileName;
 use crate::program_file::class_of;
+use crate::quote::Quote;
 use crate::refusal::{Obstacle, Refusal};
 use crate::report::{tell_write_failed, write_out_of_memory};
 use crate::watchable::Watchable;
 use crate::watched::Watched;
 use jm_explain::Status;
 use jm_findings::{MainClass, finding_lines};
-use jm_job::InputFile;
+use jm_jasmin::AsmFault;
+use jm_job::{Contents, InputFile};
 use jm_program::Class;
 use std::alloc::{AllocError, Global};
 use std::fmt;
@@ -32,6 +35,79 @@ impl Display for FileRefused<'_> {
     }
 }
 
+// The fault of a text, where a refusal is for one.
+fn text_fault(refusal: &Refusal<'_>) -> Option<AsmFault>
+    ensures { result ≡ text_fault (reason_of refusal.now) }
+{
+    match refusal {
+        Refusal::BadText(_, fault) => Some(*fault),
+        Refusal::NotRead(_)
+        | Refusal::BadClass(_, _)
+        | Refusal::Unwritten(_, _)
+        | Refusal::Unlinked(_)
+        | Refusal::HeapTooSmall
+        | Refusal::BadSchedule(_) => None,
+    }
+}
+
+// Writes where the fault of a text is, what is wrong, and its line.
+fn add_fault(
+    text: &mut String,
+    name: &str,
+    bytes: &[u8],
+    fault: AsmFault,
+    line: Option<usize>,
+) -> Result<(), AllocError>
+    ensures { OnOk result (string_bytes text.new ≡ string_bytes text.old ++ fault_at name.now bytes.now fault line) }
+{
+    let name = FileName(name);
+    match line {
+        Some(line) => {
+            let quote = Quote { line, text: bytes };
+            write!(text, "{name}:{line}: {fault}\n| {quote}\n")
+        }
+        None => write!(text, "{name}: {fault}\n"),
+    }
+}
+
+// The same of the text in a file.
+fn add_fault_in(text: &mut String, file: &InputFile, fault: AsmFault) -> Result<(), AllocError>
+    ensures { OnOk result (string_bytes text.new ≡ string_bytes text.old ++ fault_in (string_bytes file.now.name) file.now.contents fault) }
+{
+    match &file.contents {
+        Contents::Bytes(bytes) => add_fault(text, &file.name, bytes, fault, fault.line()),
+        Contents::NotRead | Contents::OutOfMemory => {
+            add_fault(text, &file.name, &[], fault, None)
+        }
+    }
+}
+
+// Writes why a file holds no class.
+fn add_said(text: &mut String, refusal: Refusal<'_>) -> Result<(), AllocError>
+    ensures { OnOk result (string_bytes text.new ≡ string_bytes text.old ++ (reason_says (reason_of refusal.entry) ++ codes "\n")) }
+{
+    let file = FileRefused(refusal);
+    write!(text, "{file}\n")
+}
+
+// The same, or the fault of a text at its line.
+fn add_refused(
+    text: &mut String,
+    file: &InputFile,
+    refusal: Refusal<'_>,
+    placed: bool,
+) -> Result<(), AllocError>
+    ensures { OnOk result (string_bytes text.new ≡ string_bytes text.old ++ cause_line placed file.now (because (reason_of refusal.entry))) }
+{
+    if !placed {
+        return add_said(text, refusal);
+    }
+    match text_fault(&refusal) {
+        Some(fault) => add_fault_in(text, file, fault),
+        None => add_said(text, refusal),
+    }
+}
+
 // What was seen of files: the classes that they hold, a line for each that holds none, and whether the
 // main class is among the classes.
 #[derive(Drop)]
@@ -42,9 +118,14 @@ struct Seen {
 }
 
 // Looks at one more file.
-fn see_file(alloc: Global, seen: &mut Seen, file: &InputFile) -> Result<(), AllocError>
+fn see_file(
+    alloc: Global,
+    seen: &mut Seen,
+    file: &InputFile,
+    placed: bool,
+) -> Result<(), AllocError>
     ensures classes { OnOk result (seen.new.classes.items ≡ seen.old.classes.items ++ class_held (class_of file.now)) }
-    ensures refused { OnOk result (string_bytes seen.new.refused ≡ string_bytes seen.old.refused ++ refused_line (class_of file.now)) }
+    ensures refused { OnOk result (string_bytes seen.new.refused ≡ string_bytes seen.old.refused ++ refused_line placed file.now (class_of file.now)) }
     ensures main { OnOk result (seen.new.main ≡ seen.old.main) }
 {
     match class_of(alloc, file) {
@@ -52,30 +133,32 @@ fn see_file(alloc: Global, seen: &mut Seen, file: &InputFile) -> Result<(), Allo
             seen.classes.push(class)?;
             Ok(())
         }
-        Err(Obstacle::Refused(refusal)) => {
-            let file = FileRefused(refusal);
-            write!(seen.refused, "{file}\n")
-        }
+        Err(Obstacle::Refused(refusal)) => { add_refused(&mut seen.refused, file, refusal, placed) }
         Err(Obstacle::OutOfMemory) => Err(AllocError),
     }
 }
 
 // Looks at some more files.
-fn see_more(alloc: Global, seen: &mut Seen, files: &[InputFile]) -> Result<(), AllocError>
+fn see_more(
+    alloc: Global,
+    seen: &mut Seen,
+    files: &[InputFile],
+    placed: bool,
+) -> Result<(), AllocError>
     ensures classes { OnOk result (seen.new.classes.items ≡ seen.old.classes.items ++ classes_held files.now) }
-    ensures refused { OnOk result (string_bytes seen.new.refused ≡ string_bytes seen.old.refused ++ refused_lines files.now) }
+    ensures refused { OnOk result (string_bytes seen.new.refused ≡ string_bytes seen.old.refused ++ refused_lines placed files.now) }
     ensures main { OnOk result (seen.new.main ≡ seen.old.main) }
 {
     for file in files {
-        see_file(alloc, seen, file)?;
+        see_file(alloc, seen, file, placed)?;
     }
     Ok(())
 }
 
 // Looks at all files. The main class is that of the first.
-fn see_files(alloc: Global, files: &[InputFile]) -> Result<Seen, AllocError>
+fn see_files(alloc: Global, files: &[InputFile], placed: bool) -> Result<Seen, AllocError>
     ensures classes { IfOk result (λ seen. seen.classes.items ≡ classes_held files.now) }
-    ensures refused { IfOk result (λ seen. string_bytes seen.refused ≡ refused_lines files.now) }
+    ensures refused { IfOk result (λ seen. string_bytes seen.refused ≡ refused_lines placed files.now) }
     ensures main { IfOk result (λ seen. seen.main ≡ main_class_of files.now) }
 {
     let mut seen = Seen {
@@ -86,23 +169,28 @@ fn see_files(alloc: Global, files: &[InputFile]) -> Result<Seen, AllocError>
     let Some((first, others)) = files.split_first() else {
         return Ok(seen);
     };
-    see_file(alloc, &mut seen, first)?;
+    see_file(alloc, &mut seen, first, placed)?;
     if seen.classes.is_empty() {
         seen.main = MainClass::Unknown;
     }
-    see_more(alloc, &mut seen, others)?;
+    see_more(alloc, &mut seen, others, placed)?;
     Ok(seen)
 }
 
-// All that is told of files.
-fn findings_of(alloc: Global, files: &[InputFile]) -> Result<String, AllocError>
-    ensures { IfOk result (λ text. string_bytes text ≡ all_told files.now) }
+/// All that is told of files: a line for each that holds no class, where the fault of a text is placed at its
+/// line or not, and all that linking refuses. `AllocError`: a growth was refused.
+pub(crate) fn findings_of(
+    alloc: Global,
+    files: &[InputFile],
+    placed: bool,
+) -> Result<String, AllocError>
+    ensures { IfOk result (λ text. string_bytes text ≡ told_of placed files.now) }
 {
     let Seen {
         classes,
         refused: mut text,
         main,
-    } = see_files(alloc, files)?;
+    } = see_files(alloc, files, placed)?;
     let lines = finding_lines(alloc, &classes, main)?;
     write!(text, "{lines}")?;
     Ok(text)
@@ -152,7 +240,7 @@ pub fn check<O: Watchable, E: Watchable>(
     requires err { err.old.failed ≡ false }
     ensures { ChecksIfThereIsMemory (words O.contents O.ends) (words E.contents E.ends) files.now result out.old out.new err.old err.new }
 {
-    match findings_of(alloc, files) {
+    match findings_of(alloc, files, false) {
         Ok(text) => tell(&text, out, err),
         Err(_) => {
             let _told = write_out_of_memory(err);

@@ -7,7 +7,8 @@
 //! assembler text denotes, for `jm dis` the text of the class that a file holds. For `jm debug` it answers the lines of a
 //! reader as the debugger does. Beside it [`film`], [`trace`] and [`why`] make a run and write what is told of it while its
 //! events are made ([`tell_run`]); [`check`] writes all that is refused and missing in the classes of files; [`explain`]
-//! writes what the table of `jm_explain` says of a number, and [`tell_version`] a line, for `jm version`.
+//! writes what the table of `jm_explain` says of a number, and [`tell_version`] a line, for `jm version`;
+//! and [`advise`] what more there is to say of a job that did not go well, by what `check` and `why` say.
 //!
 //! It knows no file and no terminal: the files' bytes stand in the job, the reader is any that is [`Readable`] and the two
 //! writers any that are [`Watchable`], each [`Watched`], so that its contract can say which bytes are read and written, and
@@ -20,7 +21,7 @@
 //! `program_file` says which class a file holds, `preparation` goes from files to a machine, `events` says where its events
 //! come from (`jm_events`), `one_worker` makes them, and `workers` those that several choose; `report` and `ends` say how a
 //! run ended. `replaying`, `exploring`, `assembly`, `disassembly` and `session` have the other jobs, the last
-//! over the `lines` of its reader; `told_run` has what a `teller` tells, `checking` and `explanation` what their names say.
+//! over the `lines` of its reader; `told_run` has what a `teller` tells, `quote` a line of a text, `checking` and `explanation` what their names say.
 //! The writer and the reader of class files do not know one another, so [`written_and_read`] stands here: a class that is
 //! written as a class file and read again is that class.
 //!
@@ -30,6 +31,7 @@
 //! `jm_disassembler` and `jm_findings`, on the jobs (`jm_job`) and on `jm_explain`.
 #![tactic(auto)]
 
+mod advice;
 mod assembly;
 mod checking;
 mod copiers;
@@ -48,6 +50,7 @@ mod lines;
 mod one_worker;
 mod preparation;
 mod program_file;
+mod quote;
 mod readable;
 mod reasons_of_end;
 mod refusal;
@@ -64,6 +67,7 @@ mod watchable;
 mod watched;
 mod workers;
 
+pub use advice::advise;
 pub use assembly::assemble_file;
 pub use checking::check;
 pub use disassembly::{ClassText, disassemble_file};

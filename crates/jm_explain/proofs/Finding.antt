@@ -1,9 +1,14 @@
 -- A search among entries, and one among what they say; a search in one group after another; the lines of one group after another.
-use Rattle.std.proofs.Common.{◌≡◌, ℕ, Bool, true, false, cond, List, [], ◌∷◌, ◌++◌, Option, Some, None, refl, sym, ap, ap₂, ◌∙◌}
-use Rattle.std.specs.Prelude.{find, map}
+use Rattle.std.proofs.Common.{◌≡◌, Bool, true, false, cond, List, [], ◌∷◌, ◌++◌, Option, Some, None, refl, sym, ap, ap₂, ◌∙◌}
+use Rattle.std.specs.Prelude.{find, map, ◌||◌}
+use Rattle.std.specs.List.{list_any}
 use Rattle.std.specs.Option.{option_map, option_or}
-use Rattle.jm_explain.specs.Items.{Item, is_of, item}
+use Rattle.jm_explain.specs.Items.{Item, item}
 use Rattle.jm_explain.specs.declared.entry.Entry.{Entry}
+
+pub any_viewed : {X Y : Type 0} (view : X → Y) (is : Y → Bool) (xs : List X) → list_any (λ (x : X). is (view x)) xs ≡ list_any is (map view xs)
+any_viewed view is [] = refl
+any_viewed view is (x ∷ xs) = ap (λ (b : Bool). is (view x) || b) (any_viewed view is xs)
 
 chosen : {X Y : Type 0} (view : X → Y) (b : Bool) (x : X) (o : Option X) (p : Option Y) → option_map view o ≡ p → option_map view (cond b (Some x) o) ≡ cond b (Some (view x)) p
 chosen view true x o p same = refl
@@ -26,12 +31,12 @@ mapped_or view None q = refl
 mapped_or view (Some x) q = refl
 
 -- what a group's entries give, a search in the group gives
-pub found_first : (n : ℕ) (es : List Entry) (group : List Item) (r : Option Entry) → map item es ≡ group → option_map item r ≡ find (is_of n) (map item es)
-    → option_map item r ≡ find (is_of n) group
-found_first n es group r same found = found ∙ ap (find (is_of n)) same
+pub found_first : (is : Item → Bool) (es : List Entry) (group : List Item) (r : Option Entry) → map item es ≡ group → option_map item r ≡ find is (map item es)
+    → option_map item r ≡ find is group
+found_first is es group r same found = found ∙ ap (find is) same
 
 -- a search in groups and then in one more
-pub found_or : (n : ℕ) (es : List Entry) (all group : List Item) (p q r : Option Entry) → map item es ≡ group → option_map item p ≡ find (is_of n) all
-    → option_map item q ≡ find (is_of n) (map item es) → r ≡ option_or p q → option_map item r ≡ find (is_of n) (all ++ group)
-found_or n es all group p q r same first second is =
-    ap (option_map item) is ∙ mapped_or item p q ∙ ap₂ option_or first (found_first n es group q same second) ∙ sym (find_in_two (is_of n) all group)
+pub found_or : (is : Item → Bool) (es : List Entry) (all group : List Item) (p q r : Option Entry) → map item es ≡ group → option_map item p ≡ find is all
+    → option_map item q ≡ find is (map item es) → r ≡ option_or p q → option_map item r ≡ find is (all ++ group)
+found_or is es all group p q r same first second both =
+    ap (option_map item) both ∙ mapped_or item p q ∙ ap₂ option_or first (found_first is es group q same second) ∙ sym (find_in_two is all group)

@@ -1,7 +1,8 @@
 -- What is said of a number, and how it is laid out.
-use Rattle.std.specs.Prelude.{ℕ, List, ◌++◌, codes, Bool, ◌==◌}
+use Rattle.std.specs.Prelude.{ℕ, List, ◌++◌, codes, Bool, ◌==◌, map}
 use Rattle.std.specs.Fmt.{decimal}
-use Rattle.std.specs.List.{flat_map}
+use Rattle.std.specs.List.{flat_map, list_any}
+use Rattle.std.specs.Str.{bytes_eq}
 use Rattle.jm_explain.specs.declared.entry.Entry.{Entry}
 
 abbrev pub Text : Type 0
@@ -10,16 +11,21 @@ Text = List ℕ
 pub record Item : Type 0 where
   pub number : ℕ
   pub name : Text
+  pub names : List Text
   pub meaning : Text
   pub example : Text
   pub advice : Text
 
 -- what an entry says
 abbrev pub item : Entry → Item
-item e = record { number = e.number; name = e.name.now; meaning = e.meaning.now; example = e.example.now; advice = e.advice.now }
+item e = record { number = e.number; name = e.name.now; names = map (λ n. n.now) e.names.now; meaning = e.meaning.now; example = e.example.now; advice = e.advice.now }
 
 abbrev pub is_of : ℕ → Item → Bool
 is_of n i = i.number == n
+
+-- a word is one of its names
+abbrev pub is_named : Text → Item → Bool
+is_named word i = list_any (λ name. bytes_eq name word) i.names
 
 -- its line in the list of all
 abbrev pub item_line : Item → Text

@@ -1,3 +1,4 @@
+pub mod Asked
 pub mod Codes
 pub mod Items
 pub mod Table

@@ -13,6 +13,8 @@ pub struct Entry {
     pub number: u32,
     /// The name of the refusal or the stop; or `status`, where the number is that of an exit status.
     pub name: &'static str,
+    /// The words by which it is asked for: as lines show a refusal, a stop, its kind, or how a schedule ended.
+    pub names: &'static [&'static str],
     /// What the number says, in one line.
     pub meaning: &'static str,
     /// A case in which it comes.

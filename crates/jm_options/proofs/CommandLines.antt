@@ -573,9 +573,13 @@ no_list_fault : explanation_fault [] ≡ []
 unfolding jm clap_on_literals
 no_list_fault = refl
 
-no_such_number : explanation_fault (codes "100" ∷ []) ≡ kind.ValueValidation ∷ []
+a_name : explained (codes "NoClass" ∷ []) ≡ Some (codes "explain", Some (codes "NoClass"))
 unfolding jm clap_on_literals
-no_such_number = refl
+a_name = refl
+
+no_name_fault : explanation_fault (codes "NoClass" ∷ []) ≡ []
+unfolding jm clap_on_literals
+no_name_fault = refl
 
 two_numbers : explanation_fault (codes "51" ∷ codes "52" ∷ []) ≡ kind.UnknownArgument ∷ []
 unfolding jm clap_on_literals
@@ -593,3 +597,27 @@ no_version_fault = refl
 a_word_behind_the_version : fault_of jm (codes "jm" ∷ codes "version" ∷ codes "1" ∷ []) ≡ kind.UnknownArgument ∷ []
 unfolding jm clap_on_literals
 a_word_behind_the_version = refl
+
+-- the flag that asks for more
+abbrev told_more : Text → List Text → Option Bool
+told_more name words = option_map (λ (s : Subcommand). is_set (first_of (codes "tell") s.1)) (subcommand_of jm (codes "jm" ∷ name ∷ words))
+
+a_run_told : told_more (codes "run") (codes "--tell" ∷ codes "A.class" ∷ []) ≡ Some true
+unfolding jm clap_on_literals
+a_run_told = refl
+
+a_run_untold : told_more (codes "run") (codes "A.class" ∷ []) ≡ Some false
+unfolding jm clap_on_literals
+a_run_untold = refl
+
+a_replay_told : told_more (codes "replay") (codes "r" ∷ codes "A.class" ∷ codes "--tell" ∷ []) ≡ Some true
+unfolding jm clap_on_literals
+a_replay_told = refl
+
+an_exploration_told : told_more (codes "explore") (codes "--tell" ∷ codes "A.class" ∷ []) ≡ Some true
+unfolding jm clap_on_literals
+an_exploration_told = refl
+
+a_session_told : told_more (codes "debug") (codes "--tell" ∷ codes "A.class" ∷ []) ≡ Some true
+unfolding jm clap_on_literals
+a_session_told = refl

@@ -11,7 +11,7 @@ use Rattle.clap.specs.declared.parser.matches.ArgMatches.{ArgMatches}
 use Rattle.clap.specs.declared.parser.matches.ArgMatches.TheViews.{out-ArgMatches, out-SubCommand}
 use Rattle.clap.specs.declared.error.Error.{Error}
 use Rattle.clap.specs.declared.error.kind.ErrorKind.TheVariants as kind
-use Rattle.jm_options.specs.Asked.{SpellsNumber, HoldsNumber, MayHoldNumber, HoldsSerialRun, HoldsRun, HoldsStress, stress_word, HoldsReplay, HoldsExplore, HoldsCheck, HoldsTrace, HoldsFilm, HoldsAssemble, HoldsDisassemble, HoldsDebug, HoldsAsked, HoldsEntry, HoldsExplain, HoldsNamed, Holds, Subcommand, Finds, Answers, name_of}
+use Rattle.jm_options.specs.Asked.{SpellsNumber, HoldsNumber, MayHoldNumber, HoldsSerialRun, HoldsRun, HoldsStress, stress_word, HoldsReplay, HoldsExplore, HoldsCheck, HoldsTrace, HoldsFilm, HoldsAssemble, HoldsDisassemble, HoldsDebug, HoldsAsked, HoldsEntry, HoldsExplain, HoldsNamed, Holds, Subcommand, Finds, AnswersTo, name_of}
 use Rattle.jm_options.specs.CommandLine.{jm}
 use Rattle.jm_options.specs.declared.request.Options.{Options}
 use Rattle.jm_options.specs.declared.request.Options.TheVariants.{Run, Replay, Explore, Check, Why, Trace, Film, Assemble, Disassemble, Debug, Explain, Version}
@@ -29,7 +29,10 @@ use Rattle.jm_options.specs.declared.request.DisassembleOptions.{DisassembleOpti
 use Rattle.jm_options.specs.declared.request.DebugOptions.{DebugOptions}
 use Rattle.jm_options.specs.declared.request.ExplainOptions.{ExplainOptions}
 use Rattle.jm_options.specs.declared.fault.UsageFault.{UsageFault}
-use Rattle.jm_explain.specs.Items.{Item, is_of, item}
+use Rattle.jm_explain.specs.Asked.{Asks as AsksFor, is_asked}
+use Rattle.jm_explain.specs.declared.search.Asked.{Asked}
+use Rattle.jm_explain.specs.declared.search.Asked.TheVariants.{Number, Name}
+use Rattle.jm_explain.specs.Items.{Item, is_named, is_of, item}
 use Rattle.jm_explain.specs.Table.{items}
 use Rattle.jm_explain.specs.declared.entry.Entry.{Entry}
 use Rattle.jm_options.specs.declared.fault.UsageFault.TheVariants.{Usage, OutOfMemory}
@@ -142,20 +145,20 @@ one_word rows input output first second same o holds =
     let apart : bytes_eq input output ≡ false = ap₂ bytes_eq a b ∙ holds.apart in
     cc
 
--- ---- the number that is to be explained
+-- ---- what is to be explained
 
--- of one number one thing is said
-pub no_entry : (rows : List Row) (n : ℕ) → HoldsNumber (codes "number") 0 99 rows n → find (is_of n) items ≡ None → (i : Item) → HoldsEntry rows i → ⊥
-no_entry rows n there none i holds =
-    let same = same_number (codes "number") 0 99 rows holds.number n holds.given there in
-    let said = ap (λ (m : ℕ). find (is_of m) items) (sym same) ∙ holds.said in
-    let is : None ≡ Some i = sym none ∙ said in
+-- of one word one thing is said
+same_found : (word : Text) (a b : Asked) → AsksFor word a → AsksFor word b → find (is_asked a) items ≡ find (is_asked b) items
+same_found word (Number n) (Number m) first second = ap (λ (k : ℕ). find (is_of k) items) (first.1 ∙ sym second.1)
+same_found word (Number n) (Name b) first second = absurd (second.0 first.0)
+same_found word (Name a) (Number m) first second = absurd (first.0 second.0)
+same_found word (Name a) (Name b) first second = ap (λ (t : Text). find (is_named t) items) (first.1 ∙ sym second.1)
+
+pub no_entry : (rows : List Row) (t : Text) (a : Asked) → Some t ≡ first_of (codes "number") rows → AsksFor t a → None ≡ find (is_asked a) items → (i : Item) → HoldsEntry rows i → ⊥
+no_entry rows t a given asks none i holds =
+    let word : t ≡ holds.word = same_text t holds.word (given ∙ holds.given) in
+    let is : None ≡ Some i = none ∙ same_found holds.word a holds.asked (subst (λ (w : Text). AsksFor w a) word asks) holds.asks ∙ holds.said in
     cc
-
-pub entry_or_none : (rows : List Row) (n : ℕ) (found : Option Entry) → HoldsNumber (codes "number") 0 99 rows n → option_map item found ≡ find (is_of n) items
-    → MatchOption found ((i : Item) → HoldsEntry rows i → ⊥) (λ e. HoldsEntry rows (item e))
-entry_or_none rows n None there none = no_entry rows n there (sym none)
-entry_or_none rows n (Some e) there said = record { number = n; given = there; said = sym said }
 
 asked_or_not : (rows : List Row) (t : Text) (asked : Option Entry) → Some t ≡ first_of (codes "number") rows → ((i : Item) → HoldsEntry rows i → ⊥)
     → HoldsAsked rows (option_map item asked) → ⊥
@@ -318,12 +321,12 @@ other_name name rows run replay explore check why trace film asm dis debug expla
 
 -- ---- the words
 
-pub answered : (words : List Text) (r : Result Options UsageFault) → fault_of jm words ≡ [] → Finds r (Holds (subcommand_of jm words)) → Answers words r
+pub answered : (words : List Text) (r : Result Options UsageFault) → fault_of jm words ≡ [] → Finds r (Holds (subcommand_of jm words)) → AnswersTo words r
 answered words (Ok o) taken found = record { taken = taken; held = found }
 answered words (Err (Usage text)) taken none = λ o asks. none o asks.held
 answered words (Err OutOfMemory) taken none = tt
 
-pub not_taken : (words : List Text) (fault : UsageFault) → (fault_of jm words ≡ [] → fault ≡ OutOfMemory) → Answers words (Err fault)
+pub not_taken : (words : List Text) (fault : UsageFault) → (fault_of jm words ≡ [] → fault ≡ OutOfMemory) → AnswersTo words (Err fault)
 not_taken words (Usage text) memory = λ o asks. let is = memory asks.taken in cc
 not_taken words OutOfMemory memory = tt
 

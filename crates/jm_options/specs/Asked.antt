@@ -1,9 +1,11 @@
 -- What words ask of jm.
-use Rattle.std.specs.Prelude.{◌≡◌, ◌≤◌, ℕ, List, Option, Some, None, [], Result, Ok, Err, ⊤, Bool, false, find, codes, map, option_map, string_bytes, unwrap_or}
+use Rattle.std.specs.Prelude.{◌≡◌, ◌≤◌, ℕ, List, Option, Some, None, [], ◌∷◌, Result, Ok, Err, ⊤, Bool, false, find, codes, map, option_map, string_bytes, unwrap_or, if◌then◌else◌}
 use Rattle.std.specs.Str.{bytes_eq}
 use Rattle.std.specs.Str.Parse.{IsNumeral, digits_value, without_leading_plus}
 use Rattle.clap.specs.Words.{Row, Text, all_of, first_of, one_of, fault_of, subcommand_of}
-use Rattle.jm_explain.specs.Items.{Item, is_of, item}
+use Rattle.jm_explain.specs.Asked.{Asks as AsksFor, is_asked}
+use Rattle.jm_explain.specs.declared.search.Asked.{Asked}
+use Rattle.jm_explain.specs.Items.{Item, item}
 use Rattle.jm_explain.specs.Table.{items}
 use Rattle.jm_options.specs.CommandLine.{jm}
 use Rattle.jm_options.specs.declared.request.Options.{Options}
@@ -103,12 +105,14 @@ pub record HoldsRun (matches : List Row) (o : RunOptions) : Type 0 where
   pub stress : HoldsStress matches o.workers o.stress
   pub record_file : first_of (codes "record") matches ≡ option_map string_bytes o.record_file
   pub show_heap : o.show_heap ≡ is_set (first_of (codes "show-heap") matches)
+  pub tell : o.tell ≡ is_set (first_of (codes "tell") matches)
 
 -- the options are what the matches of a replay hold, and within the limits
 pub record HoldsReplay (matches : List Row) (o : ReplayOptions) : Type 0 where
   pub heap : HoldsNumber (codes "heap") 16 16777216 matches o.heap
   pub copiers : HoldsNumber (codes "copiers") 1 16 matches o.copiers
   pub show_heap : o.show_heap ≡ is_set (first_of (codes "show-heap") matches)
+  pub tell : o.tell ≡ is_set (first_of (codes "tell") matches)
   pub record_file : first_of (codes "recorded") matches ≡ Some (string_bytes o.record_file)
   pub program : HoldsProgram matches o.program
 
@@ -120,6 +124,7 @@ pub record HoldsExplore (matches : List Row) (o : ExploreOptions) : Type 0 where
   pub slice : HoldsNumber (codes "slice") 1 1000000 matches o.slice
   pub outcome : MayHoldNumber (codes "outcome") 1 100000000 matches o.outcome
   pub heap : HoldsNumber (codes "heap") 16 16777216 matches o.heap
+  pub tell : o.tell ≡ is_set (first_of (codes "tell") matches)
   pub program : HoldsProgram matches o.program
 
 -- the options are what the matches of a check hold
@@ -155,15 +160,18 @@ pub record HoldsDisassemble (matches : List Row) (o : DisassembleOptions) : Type
 pub record HoldsDebug (matches : List Row) (o : DebugOptions) : Type 0 where
   pub heap : HoldsNumber (codes "heap") 16 16777216 matches o.heap
   pub copiers : HoldsNumber (codes "copiers") 1 16 matches o.copiers
+  pub tell : o.tell ≡ is_set (first_of (codes "tell") matches)
   pub program : HoldsProgram matches o.program
 
--- the matches hold a number of which the table says this
+-- the matches hold a number or a name of which the table says this
 pub record HoldsEntry (matches : List Row) (i : Item) : Type 0 where
-  pub number : ℕ
-  pub given : HoldsNumber (codes "number") 0 99 matches number
-  pub said : find (is_of number) items ≡ Some i
+  pub word : Text
+  pub given : first_of (codes "number") matches ≡ Some word
+  pub asked : Asked
+  pub asks : AsksFor word asked
+  pub said : find (is_asked asked) items ≡ Some i
 
--- they hold no number, and none is asked for; or they hold that of what is asked for
+-- they hold neither, and none is asked for; or they hold that of what is asked for
 abbrev pub HoldsAsked : List Row → Option Item → Type 0
 HoldsAsked matches None = first_of (codes "number") matches ≡ None
 HoldsAsked matches (Some i) = HoldsEntry matches i
@@ -213,7 +221,7 @@ pub record Holds (s : Option Subcommand) (o : Options) : Type 0 where
   pub met : s ≡ Some used
   pub named : HoldsNamed used.0 used.1 o
 
--- the words, of which the first is the program's name, are without a fault and ask for these options
+-- the words, of which the first is the program's name, are without a fault and ask for these options, as they stand
 pub record Asks (words : List Text) (o : Options) : Type 0 where
   pub taken : fault_of jm words ≡ []
   pub held : Holds (subcommand_of jm words) o
@@ -225,9 +233,20 @@ Finds {A} (Ok o) IsHeld = IsHeld o
 Finds {A} (Err (Usage text)) IsHeld = (o : A) → ¬ (IsHeld o)
 Finds {A} (Err OutOfMemory) IsHeld = ⊤
 
--- An answer to words: the options that they ask for, or that they ask for none.
+-- An answer to words as they stand: the options that they ask for, or that they ask for none.
+abbrev pub AnswersTo : List Text → Result Options UsageFault → Type 0
+AnswersTo words answer = Finds answer (Asks words)
+
+abbrev pub version_spoken : Text → Text
+version_spoken word = if bytes_eq word (codes "--version") then codes "version" else word
+
+-- `--version` alone behind the program's name is the subcommand
+abbrev pub spoken : List Text → List Text
+spoken (program ∷ word ∷ []) = program ∷ version_spoken word ∷ []
+spoken words = words
+
 abbrev pub Answers : List Text → Result Options UsageFault → Type 0
-Answers words answer = Finds answer (Asks words)
+Answers words answer = AnswersTo (spoken words) answer
 
 -- the status that the program ends with
 abbrev pub status_of : UsageFault → ℕ

@@ -68,6 +68,10 @@ record_argument = record (new_rule (codes "record")) { long = Some (codes "recor
 abbrev pub show_heap_argument : Rule
 show_heap_argument = record (new_rule (codes "show-heap")) { long = Some (codes "show-heap"); action = Some SetTrue }
 
+-- --tell
+abbrev pub tell_argument : Rule
+tell_argument = record (new_rule (codes "tell")) { long = Some (codes "tell"); action = Some SetTrue }
+
 -- FILE.., of which one has to be there
 abbrev pub file_argument : Rule
 file_argument = record (new_rule (codes "file")) { value_names = 1; required = true; action = Some Append }
@@ -90,9 +94,9 @@ with_turns steps a = with_rule (with_rule (with_rule (with_rule (with_rule a hea
 
 -- the options of run
 abbrev pub run_options : App
-run_options = with_rule (with_rule (with_rule (with_rule (with_turns steps_argument (new_app (codes "run"))) workers_argument) stress_argument) record_argument) show_heap_argument
+run_options = with_rule (with_rule (with_rule (with_rule (with_rule (with_turns steps_argument (new_app (codes "run"))) workers_argument) stress_argument) record_argument) show_heap_argument) tell_argument
 
--- run [--heap N] [--copiers N] [--schedule FILE] [--steps N] [--quantum N] [--workers N] [--stress minor|full] [--record FILE] [--show-heap] [--path DIR].. [--main NAME] FILE..
+-- run [--heap N] [--copiers N] [--schedule FILE] [--steps N] [--quantum N] [--workers N] [--stress minor|full] [--record FILE] [--show-heap] [--tell] [--path DIR].. [--main NAME] FILE..
 abbrev pub run_command : App
 run_command = with_program run_options
 
@@ -102,9 +106,9 @@ recorded_argument = record (new_rule (codes "recorded")) { value_names = 1; requ
 
 -- the options of replay
 abbrev pub replay_options : App
-replay_options = with_rule (with_rule (with_rule (new_app (codes "replay")) heap_argument) copiers_argument) show_heap_argument
+replay_options = with_rule (with_rule (with_rule (with_rule (new_app (codes "replay")) heap_argument) copiers_argument) show_heap_argument) tell_argument
 
--- replay [--heap N] [--copiers N] [--show-heap] [--path DIR].. [--main NAME] RECORD FILE..
+-- replay [--heap N] [--copiers N] [--show-heap] [--tell] [--path DIR].. [--main NAME] RECORD FILE..
 abbrev pub replay_command : App
 replay_command = with_rule (with_rule (with_rule (with_rule replay_options path_argument) main_argument) recorded_argument) file_argument
 
@@ -156,9 +160,9 @@ outcome_argument = record (new_rule (codes "outcome")) {
 abbrev pub bounds_options : App
 bounds_options = with_rule (with_rule (with_rule (with_rule (new_app (codes "explore")) switches_argument) schedule_steps_argument) runs_argument) slice_argument
 
--- explore [--switches N] [--steps N] [--runs N] [--slice N] [--outcome N] [--heap N] [--path DIR].. [--main NAME] FILE..
+-- explore [--switches N] [--steps N] [--runs N] [--slice N] [--outcome N] [--heap N] [--tell] [--path DIR].. [--main NAME] FILE..
 abbrev pub explore_command : App
-explore_command = with_program (with_rule (with_rule bounds_options outcome_argument) heap_argument)
+explore_command = with_program (with_rule (with_rule (with_rule bounds_options outcome_argument) heap_argument) tell_argument)
 
 -- --list
 abbrev pub list_argument : Rule
@@ -243,15 +247,15 @@ class_argument = record (new_rule (codes "class")) { value_names = 1; required =
 abbrev pub disassemble_command : App
 disassemble_command = with_rule (with_rule (new_app (codes "dis")) bare_argument) class_argument
 
--- debug [--heap N] [--copiers N] [--path DIR].. [--main NAME] FILE..
+-- debug [--heap N] [--copiers N] [--tell] [--path DIR].. [--main NAME] FILE..
 abbrev pub debug_command : App
-debug_command = with_program (with_rule (with_rule (new_app (codes "debug")) heap_argument) copiers_argument)
+debug_command = with_program (with_rule (with_rule (with_rule (new_app (codes "debug")) heap_argument) copiers_argument) tell_argument)
 
--- N, a number that may be left out
+-- N or NAME, which may be left out
 abbrev pub number_argument : Rule
-number_argument = record (new_rule (codes "number")) { value_names = 1; parser = Some (vp.Signed (pos 0) (pos 99)) }
+number_argument = record (new_rule (codes "number")) { value_names = 1 }
 
--- explain [N]
+-- explain [N|NAME]
 abbrev pub explain_command : App
 explain_command = with_rule (new_app (codes "explain")) number_argument
 

@@ -19,7 +19,7 @@ rule_formed name (form.NumberOr least most default) =
     record (new_rule name) { long = Some name; value_names = 1; defaults = default.now ∷ []; parser = Some (vp.Signed (pos least) (pos most)) }
 rule_formed name form.Word = record (new_rule name) { value_names = 1; required = true }
 rule_formed name form.Words = record (new_rule name) { value_names = 1; required = true; action = Some Append }
-rule_formed name (form.WordNumber least most) = record (new_rule name) { value_names = 1; parser = Some (vp.Signed (pos least) (pos most)) }
+rule_formed name form.OptionalWord = record (new_rule name) { value_names = 1 }
 
 abbrev pub rule_said : Argument → Rule
 rule_said a = rule_formed a.name.now a.form

@@ -28,8 +28,8 @@ pub enum Form {
     Word,
     /// `VALUE...`
     Words,
-    /// `[VALUE]`, a number from the first to the second.
-    WordNumber(u32, u32),
+    /// `[VALUE]`
+    OptionalWord,
 }
 
 /// An argument of a subcommand.
@@ -102,6 +102,13 @@ pub const SHOW_HEAP: Argument = Argument {
     value: "",
     form: Form::Flag,
     help: "Also show, on standard error, the objects that are reachable at the end",
+};
+
+pub const TELL: Argument = Argument {
+    name: "tell",
+    value: "",
+    form: Form::Flag,
+    help: "Also tell, on standard error, all that is refused as `jm check` does, or how the run ended as `jm why` does, and which number to ask `jm explain` for",
 };
 
 pub const PATH: Argument = Argument {
@@ -239,9 +246,9 @@ pub const CLASS: Argument = Argument {
 
 pub const NUMBER: Argument = Argument {
     name: "number",
-    value: "N",
-    form: Form::WordNumber(0, 99),
-    help: "Number of a refusal, a stop or an exit status; without one all are listed",
+    value: "N|NAME",
+    form: Form::OptionalWord,
+    help: "Number or name of a refusal, a stop or an exit status, as 51 or NoClass; without one all are listed",
 };
 
 /// The argument as `clap` takes it.
@@ -270,8 +277,6 @@ pub fn argument_of<'a>(alloc: Global, said: &Argument) -> Arg<'a>
             .value_name(said.value)
             .required(true)
             .action(ArgAction::Append),
-        Form::WordNumber(least, most) => plain.value_name(said.value).value_parser(value_parser!(
-            u32
-        ).range(i64::from(least)..=i64::from(most))),
+        Form::OptionalWord => plain.value_name(said.value),
     }
 }

@@ -8,7 +8,7 @@ ghost use Rattle.jm_options.specs.Rows.{app_said};
 use crate::argument::{
     Argument, BARE, CLASS, COPIERS, FILE, FILM_STEPS, FROM, HEAP, INPUT, LIST, MAIN, MOST, NUMBER,
     OUTCOME, OUTPUT, PATH, QUANTUM, RECORD, RECORDED, RUNS, SCHEDULE, SCHEDULE_STEPS, SHOW_HEAP,
-    SLICE, SOURCE, STEPS, STRESS, SWITCHES, THREAD, WORKERS, argument_of,
+    SLICE, SOURCE, STEPS, STRESS, SWITCHES, TELL, THREAD, WORKERS, argument_of,
 };
 use clap::Command;
 use std::alloc::{AllocError, Global};
@@ -27,8 +27,8 @@ const RUN: Subcommand = Subcommand {
     about: "Run a program: its threads take turns, or a schedule says which events are made",
     more: "Example: jm run Main.class Other.class\n\nClass files come from `javac --release 8`. What a number means says `jm explain N`.",
     arguments: &[
-        HEAP, COPIERS, SCHEDULE, STEPS, QUANTUM, WORKERS, STRESS, RECORD, SHOW_HEAP, PATH, MAIN,
-        FILE,
+        HEAP, COPIERS, SCHEDULE, STEPS, QUANTUM, WORKERS, STRESS, RECORD, SHOW_HEAP, TELL, PATH,
+        MAIN, FILE,
     ],
 };
 
@@ -36,7 +36,7 @@ const REPLAY: Subcommand = Subcommand {
     name: "replay",
     about: "Run a program again by the events of a record, and compare how each is answered",
     more: "Example: jm replay run.record Main.class Other.class\n\nClass files come from `javac --release 8`. What a number means says `jm explain N`.",
-    arguments: &[HEAP, COPIERS, SHOW_HEAP, PATH, MAIN, RECORDED, FILE],
+    arguments: &[HEAP, COPIERS, SHOW_HEAP, TELL, PATH, MAIN, RECORDED, FILE],
 };
 
 const EXPLORE: Subcommand = Subcommand {
@@ -50,6 +50,7 @@ const EXPLORE: Subcommand = Subcommand {
         SLICE,
         OUTCOME,
         HEAP,
+        TELL,
         PATH,
         MAIN,
         FILE,
@@ -106,20 +107,20 @@ const DEBUG: Subcommand = Subcommand {
     name: "debug",
     about: "Show a program at any event: commands are read from standard input, a line each",
     more: "Example: jm debug Main.class Other.class\n\nClass files come from `javac --release 8`. What a number means says `jm explain N`.",
-    arguments: &[HEAP, COPIERS, PATH, MAIN, FILE],
+    arguments: &[HEAP, COPIERS, TELL, PATH, MAIN, FILE],
 };
 
 const EXPLAIN: Subcommand = Subcommand {
     name: "explain",
     about: "Say what a number means: that of a refusal, of a stop or of an exit status",
-    more: "Example: jm explain 51",
+    more: "Example: jm explain 51\nExample: jm explain NoClass",
     arguments: &[NUMBER],
 };
 
 const VERSION: Subcommand = Subcommand {
     name: "version",
     about: "Say which jm this is, and which kit it is written for",
-    more: "Example: jm version",
+    more: "Example: jm version\n\n`jm --version` is the same.",
     arguments: &[],
 };
 

@@ -114,6 +114,8 @@ pub struct RunOptions {
     pub record_file: Option<String>,
     /// Whether the objects that are reachable at the end are shown.
     pub show_heap: bool,
+    /// Whether more is told of what was refused or of how the run ended.
+    pub tell: bool,
     /// The classes of the program.
     pub program: ProgramOptions,
     ghost least_heap: { 16 ≤ heap },
@@ -137,6 +139,8 @@ pub struct ReplayOptions {
     pub copiers: u32,
     /// Whether the objects that are reachable at the end are shown.
     pub show_heap: bool,
+    /// Whether more is told of what was refused or of how the run ended.
+    pub tell: bool,
     /// The file of the record.
     pub record_file: String,
     /// The classes of the program.
@@ -164,6 +168,8 @@ pub struct ExploreOptions {
     pub outcome: Option<u32>,
     /// The limit of the heap, in cells, from [`MIN_HEAP`] to [`MAX_HEAP`].
     pub heap: u32,
+    /// Whether more is told of what was refused or of how the run ended.
+    pub tell: bool,
     /// The classes of the program.
     pub program: ProgramOptions,
     ghost few_switches: { switches ≤ 16 },
@@ -273,6 +279,8 @@ pub struct DebugOptions {
     pub heap: u32,
     /// How many copiers collect the heap, from 1 to [`MAX_COPIERS`].
     pub copiers: u32,
+    /// Whether more is told of what was refused or of how the run ended.
+    pub tell: bool,
     /// The classes of the program.
     pub program: ProgramOptions,
     ghost least_heap: { 16 ≤ heap },
@@ -284,6 +292,6 @@ pub struct DebugOptions {
 /// What `jm explain` is given.
 #[derive(Drop)]
 pub struct ExplainOptions {
-    /// What is said of the number that was given; `None` where none was, which asks for the list.
+    /// What is said of the number or the name that was given; `None` where none was, which asks for the list.
     pub entry: Option<Entry>,
 }

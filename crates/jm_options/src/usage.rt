@@ -39,10 +39,10 @@ pub fn read_and_written(alloc: Global, file: &str) -> UsageFault {
     ))
 }
 
-// The text for a number of which there is nothing to say.
-pub fn unknown_number(alloc: Global, number: &str) -> UsageFault {
+// The text for a number or a name of which there is nothing to say.
+pub fn unknown_entry(alloc: Global, word: &str) -> UsageFault {
     usage(format!(in alloc;
-        "error: invalid value '{number}' for '[N]': no refusal and no status has this number\n\nFor the numbers that there are, try 'jm explain'.\n"
+        "error: invalid value '{word}' for '[N|NAME]': no refusal and no status has this number or name\n\nFor those that there are, try 'jm explain'.\n"
     ))
 }
 

@@ -1,9 +1,8 @@
 // What words ask for.
 
-ghost use Rattle.std.specs.Prelude.{◌≡◌, ◌≤◌, MatchOption, map};
+ghost use Rattle.std.specs.Prelude.{◌≡◌, ◌≤◌, ◌∷◌, [], MatchOption, codes, map};
 ghost use Rattle.clap.specs.Words.{found_of, rows_of, subcommand_rows_of};
-ghost use Rattle.jm_explain.specs.Items.{Item, item};
-ghost use Rattle.jm_options.specs.Asked.{Answers, Finds, Holds, HoldsAssemble, HoldsCheck, HoldsDebug, HoldsDisassemble, HoldsEntry, HoldsExplain, HoldsExplore, HoldsFilm, HoldsNamed, HoldsReplay, HoldsRun, HoldsSerialRun, HoldsTrace};
+ghost use Rattle.jm_options.specs.Asked.{Answers, AnswersTo, Finds, Holds, HoldsAssemble, HoldsCheck, HoldsDebug, HoldsDisassemble, HoldsExplain, HoldsExplore, HoldsFilm, HoldsNamed, HoldsReplay, HoldsRun, HoldsSerialRun, HoldsTrace, spoken};
 
 use crate::command::command;
 use crate::fault::UsageFault;
@@ -13,13 +12,13 @@ use crate::request::{
     MAX_SCHEDULE_STEPS, MAX_SLICE, MAX_STEPS, MAX_SWITCHES, MAX_WORKERS, Options, ReplayOptions,
     RunOptions, SerialRun, TraceOptions,
 };
-use crate::usage::{nothing_asked, one_file, refusal, unknown_number};
+use crate::usage::{nothing_asked, one_file, refusal, unknown_entry};
 use crate::values::{
-    copiers_asked, heap_asked, is_set, number_asked, number_given, number_within, program_asked,
-    stress_given, text_asked, text_given,
+    copiers_asked, heap_asked, is_set, number_asked, number_given, program_asked, stress_given,
+    text_asked, text_given,
 };
 use clap::ArgMatches;
-use jm_explain::{Entry, entry_of};
+use jm_explain::{asked_by, entry_of};
 use std::alloc::Global;
 
 // A run by one worker, with so many steps at most.
@@ -52,6 +51,7 @@ fn run_options(alloc: Global, matches: &ArgMatches<'_>) -> Result<RunOptions, Us
         stress: stress_given(alloc, matches, workers)?,
         record_file: text_given(alloc, matches, "record")?,
         show_heap: is_set(matches, "show-heap"),
+        tell: is_set(matches, "tell"),
         program: serial.program,
     })
 }
@@ -63,6 +63,7 @@ fn replay_options(alloc: Global, matches: &ArgMatches<'_>) -> Result<ReplayOptio
         heap: heap_asked(alloc, matches)?,
         copiers: copiers_asked(alloc, matches)?,
         show_heap: is_set(matches, "show-heap"),
+        tell: is_set(matches, "tell"),
         record_file: text_asked(alloc, matches, "recorded")?,
         program: program_asked(alloc, matches)?,
     })
@@ -78,6 +79,7 @@ fn explore_options(alloc: Global, matches: &ArgMatches<'_>) -> Result<ExploreOpt
         slice: number_asked(alloc, matches, "slice", 1, MAX_SLICE)?,
         outcome: number_given(alloc, matches, "outcome", 1, MAX_RUNS)?,
         heap: heap_asked(alloc, matches)?,
+        tell: is_set(matches, "tell"),
         program: program_asked(alloc, matches)?,
     })
 }
@@ -148,28 +150,20 @@ fn debug_options(alloc: Global, matches: &ArgMatches<'_>) -> Result<DebugOptions
     Ok(DebugOptions {
         heap: heap_asked(alloc, matches)?,
         copiers: copiers_asked(alloc, matches)?,
+        tell: is_set(matches, "tell"),
         program: program_asked(alloc, matches)?,
     })
-}
-
-// What is said of the number that was given, if there is one within the limits.
-fn entry_given(matches: &ArgMatches<'_>) -> Option<Entry>
-    ensures { let rows = rows_of (found_of matches.now) in
-        MatchOption result ((i : Item) → HoldsEntry rows i → ⊥) (λ e. HoldsEntry rows (item e)) }
-{
-    let number = number_within(matches, "number", 0, 99)?;
-    entry_of(number)
 }
 
 fn explain_options(alloc: Global, matches: &ArgMatches<'_>) -> Result<ExplainOptions, UsageFault>
     ensures { Finds result (HoldsExplain (rows_of (found_of matches.now))) }
 {
-    let Some(number) = matches.get_str("number") else {
+    let Some(word) = matches.get_str("number") else {
         return Ok(ExplainOptions { entry: None });
     };
-    match entry_given(matches) {
+    match entry_of(asked_by(word)) {
         Some(entry) => Ok(ExplainOptions { entry: Some(entry) }),
-        None => Err(unknown_number(alloc, number)),
+        None => Err(unknown_entry(alloc, word)),
     }
 }
 
@@ -203,16 +197,39 @@ fn found_options(alloc: Global, matches: &ArgMatches<'_>) -> Result<Options, Usa
     }
 }
 
-/// What words ask for. The first word is the program's name, as the system gives it.
+// What words ask for as they stand.
+fn asked_options(alloc: Global, words: &[&str]) -> Result<Options, UsageFault>
+    ensures { AnswersTo (map (λ w. w.now) words.now) result }
+{
+    let command = command(alloc)?;
+    match command.try_get_matches_from(words) {
+        Ok(matches) => found_options(alloc, &matches),
+        Err(error) => Err(refusal(alloc, &error)),
+    }
+}
+
+// The program's name, where it is alone with `--version`.
+fn asks_version<'a>(words: &[&'a str]) -> Option<&'a str>
+    ensures { MatchOption result (spoken (map (λ w. w.now) words.now) ≡ map (λ w. w.now) words.now)
+        (λ program. spoken (map (λ w. w.now) words.now) ≡ program.now ∷ codes "version" ∷ []) }
+{
+    if words.len() == 2 && words[1] == "--version" {
+        Some(words[0])
+    } else {
+        None
+    }
+}
+
+/// What words ask for. The first word is the program's name, as the system gives it; `--version` alone
+/// behind it is `version`.
 ///
 /// `Usage` has a text for the user: the help that was asked for, or what is wrong with the words and
 /// how they are used. `OutOfMemory` says that a growth was refused.
 pub fn options(alloc: Global, words: &[&str]) -> Result<Options, UsageFault>
     ensures { Answers (map (λ w. w.now) words.now) result }
 {
-    let command = command(alloc)?;
-    match command.try_get_matches_from(words) {
-        Ok(matches) => found_options(alloc, &matches),
-        Err(error) => Err(refusal(alloc, &error)),
+    match asks_version(words) {
+        Some(program) => asked_options(alloc, &[program, "version"]),
+        None => asked_options(alloc, words),
     }
 }

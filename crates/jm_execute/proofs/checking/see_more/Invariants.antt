@@ -7,5 +7,5 @@ use Rattle.jm_execute.proofs.checking.see_more.Given as goal
 abbrev pub invariant-loop-file : goal.invariant-loop-file
 invariant-loop-file l =
     (l.seen.classes.items ≡ l.initial.seen.classes.items ++ classes_held (take l.file-index l.files))
-    × (string_bytes l.seen.refused ≡ string_bytes l.initial.seen.refused ++ refused_lines (take l.file-index l.files))
+    × (string_bytes l.seen.refused ≡ string_bytes l.initial.seen.refused ++ refused_lines l.placed (take l.file-index l.files))
     × (l.seen.main ≡ l.initial.seen.main)

@@ -3,7 +3,7 @@ use Rattle.std.proofs.Common.{◌≡◌, List, map, ap, ◌∙◌, sym}
 use Rattle.clap.specs.Words.{App, Text, fault_of, is_simple, is_simple_and_free, subcommand_of, subcommand_rows_of}
 use Rattle.jm_options.specs.CommandLine.{jm, IsSeenAs}
 use Rattle.jm_options.proofs.Finding.{answered, not_taken, for_memory, is_simple_jm, is_free_jm}
-use Rattle.jm_options.proofs.words.options.Goals as goal
+use Rattle.jm_options.proofs.words.asked_options.Goals as goal
 
 pub returns-in-Ok : goal.returns-in-Ok
 returns-in-Ok c =
